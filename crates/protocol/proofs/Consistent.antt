@@ -1,0 +1,344 @@
+-- The invariant of the ledger, kept by every step: the order of writes and links in each cell, reads, open commits.
+use Prim.Native.Nat.{ℕ, zero, suc, _+_, _/_, _≤_, _<_}
+use mathlib.Core.Path.{_≡_, refl}
+use mathlib.Core.Bool.{Bool, true, false, _&&_, not}
+use mathlib.Core.List.{List, [], _∷_, map}
+use mathlib.Core.Option.{Option, none, some}
+use mathlib.Core.Logic.{⊎-elim}
+use lib.Dec.{eqb, ltb, leb}
+use lib.ListN.{length}
+use native.Mathlib.Omega.{arith}
+use borrow.Author.Tests.{leb-true, ltb-true, lt-ltb}
+use Rattle.protocol.specs.Lists.{span, anyOf, select}
+use Rattle.protocol.specs.Boards.{has, meets, Links, link, unlink, Binding, one-way, two-way, bind-tags, Chain, here}
+use Rattle.protocol.specs.Calls.{touched}
+use Rattle.protocol.specs.Ledger.{Fate, pending, kept, undone, Wrote, Read-from, Note, Commit, Ledger, blank, is-pending, covers, written, sources-of, wrote-in, writer, source, settled, cleared, all-undone, noted, started, acknowledged-by, with-context, decided, reads-undone}
+use Rattle.protocol.specs.declared.Shape.{Shape}
+use Rattle.protocol.proofs.Basics.{decide, clash, refute, and-true, true-and, and-false, All, none, also, all-map, anyOf-false}
+use Rattle.protocol.proofs.Groups.{Forward, Backward, Bounded, bounded-more, unlink-true, unlink-bounded, unlinked-bounded, commit-group-forward}
+use Rattle.protocol.proofs.Marks.{settle, untag, Ends, mark, marks, To, to, From, from, Above, Top, Kept-order, above-map, top-map, commit-order, rollback-order, marks-settled, writer-settled, keeps, undoes, At, Sourced, on-kept, on-pending, sourced}
+use Rattle.protocol.proofs.Soundness.{Good, Backed, by-none, by-kept, by-pending, backed, good-more, good-commit, good-rollback, untainted}
+use Rattle.protocol.proofs.Accesses.{cell-touched, all-found, binds-wider, binds-from, binds-to, binds-bounded, binds-forward, Outside, from-more, to-more}
+
+pub record Consistent (s : Shape) (l : Ledger) : Type 0 where
+  pub bounded : Bounded (s .boards) (l .links)
+  pub boards : All (λ n. n .board < s .boards) (l .notes)
+  pub order : (a : ℕ) → Kept-order (l .links) (writer s (l .notes) (a / s .size)) (marks (l .notes) a)
+  pub reads : All (Good (l .links) (l .notes)) (l .notes)
+  pub closed : All (λ c. Forward (has (c .members)) (l .links)) (l .commits)
+
+-- ---- lists of notes and commits
+
+all-mapped : {P Q : Note → Type 0} (f : Note → Note) {ns : List Note} → ((n : Note) → P n → Q (f n)) → All P ns
+    → All Q (map f ns)
+all-mapped f g none = none
+all-mapped f g (also h hs) = also (g _ h) (all-mapped f g hs)
+
+all-kept : {P : Commit → Type 0} (t : Commit → Bool) (cs : List Commit) → All P cs → All P (select t cs)
+unfolding select
+all-kept t [] none = none
+all-kept t (c ∷ cs) (also h hs) =
+    let rest = all-kept t cs hs in
+    ⊎-elim (λ (e : t c ≡ true). rw e (also h rest)) (λ (e : t c ≡ false). rw e rest) (decide (t c))
+
+forward-less : {p : ℕ → Bool} (q : ℕ → Bool) {d : Links} → Forward p d → Forward p (unlink q d)
+forward-less q {d} f = record { onto = λ a b h e. f .onto a b h (unlink-true q d a b e .2) }
+
+-- ---- clearing boards
+
+module _ {s : Shape} {l : Ledger} (c : Consistent s l) (p : ℕ → Bool) where
+  cleared-commits : All (λ k. Forward (has (k .members)) (unlink p (l .links)))
+      (select (λ k. not (meets (k .members) p)) (l .commits))
+  cleared-commits = all-kept (λ k. not (meets (k .members) p)) (l .commits)
+      (all-map (λ k f. forward-less p f) (c .closed))
+
+  -- by a commit or a rollback, which keep each cell in order and each read backed
+  cleared-by : {f : Fate} → Ends f
+      → ((a : ℕ) → Kept-order (unlink p (l .links)) (untag p (writer s (l .notes) (a / s .size)))
+      (map (settle p f) (marks (l .notes) a)))
+      → ((n : Note) → Good (l .links) (l .notes) n → Good (unlink p (l .links)) (map (settled p f) (l .notes))
+      (settled p f n))
+      → Consistent s (cleared p f l)
+  unfolding cleared settled
+  cleared-by {f} e order good =
+      record {
+        bounded = unlink-bounded (c .bounded) p;
+        boards = all-mapped (settled p f) (λ n h. h) (c .boards);
+        order = λ a. rw (writer-settled s p e (l .notes) (a / s .size), marks-settled p f (l .notes) a) (order a);
+        reads = all-mapped (settled p f) good (c .reads);
+        closed = cleared-commits;
+      }
+
+  pub cleared-commit : Forward p (l .links) → Consistent s (cleared p kept l)
+  cleared-commit f = cleared-by keeps (λ a. commit-order (writer s (l .notes) (a / s .size)) f (c .order a))
+      (λ n h. good-commit p f h)
+
+  pub cleared-rollback : Backward p (l .links) → Consistent s (cleared p undone l)
+  cleared-rollback f = cleared-by undoes (λ a. rollback-order (writer s (l .notes) (a / s .size)) f (c .order a))
+      (λ n h. good-rollback p f h)
+
+-- everybody rolled back
+pub undone-all : {s : Shape} {l : Ledger} → Consistent s l → Consistent s (all-undone l)
+unfolding all-undone
+undone-all c = cleared-rollback c (λ i. true) (record { onto = λ a b h e. refl })
+
+-- ---- accesses
+
+pub writer-below : (s : Shape) (ns : List Note) → All (λ n. n .board < s .boards) ns → (b : ℕ)
+    → writer s ns b ≤ s .boards
+unfolding writer
+writer-below s [] none b = omega arith
+writer-below s (n ∷ ns) (also h hs) b =
+    let rest = writer-below s ns hs b in
+    ⊎-elim
+    (λ (e : wrote-in s b n ≡ true).
+    rw e
+    (⊎-elim
+    (λ (f : is-pending (n .fate) ≡ true). rw f h)
+    (λ (f : is-pending (n .fate) ≡ false). rw f (omega arith))
+    (decide (is-pending (n .fate)))))
+    (λ (e : wrote-in s b n ≡ false). rw e rest)
+    (decide (wrote-in s b n))
+
+pub all-tags : {P : ℕ → Type 0} (f : ℕ → ℕ) → ((b : ℕ) → P (f b)) → (bs : List ℕ) → All P (map f bs)
+all-tags f h [] = none
+all-tags f h (b ∷ bs) = also (h b) (all-tags f h bs)
+
+-- what is known of an access of board i to n cells from a on that is not refused
+pub record Access-ok (s : Shape) (how : Binding) (i a n : ℕ) (l : Ledger) : Type 0 where
+  pub positive : 0 < s .size
+  pub board : i < s .boards
+  pub some : 0 < n
+  pub few : n ≤ s .size
+  -- the board is in no open commit, nor is the writer of a block that it writes to
+  pub outside : All (λ c. (has (c .members) i ≡ false) × All (Outside (has (c .members)) how)
+      (map (writer s (l .notes)) (touched s a n))) (l .commits)
+
+all-zip : {X : Type 0} {P Q R : X → Type 0} {xs : List X} → ((x : X) → P x → Q x → R x) → All P xs → All Q xs
+    → All R xs
+all-zip f none none = none
+all-zip f (also p ps) (also q qs) = also (f _ p q) (all-zip f ps qs)
+
+-- a read covers no cell and writes in no block
+pub read-covers : (i a x : ℕ) (f : Fate) (os : List (Option ℕ)) → covers
+    (record { board = i; cell = a; access = Read-from os; fate = f }) x ≡ false
+unfolding covers written
+read-covers i a x f os =
+    refute (leb a x && ltb x (a + 0)) (λ e.
+    let both = and-true (leb a x) (ltb x (a + 0)) e in
+    let lo = leb-true a x (both .0) in
+    let hi = ltb-true x (a + 0) (both .1) in
+    omega arith)
+
+module _ {s : Shape} {l : Ledger} (c : Consistent s l) {how : Binding} {i a n : ℕ} (ok : Access-ok s how i a n l) where
+  tags : List ℕ
+  tags = map (writer s (l .notes)) (touched s a n)
+
+  linked : Links
+  linked = bind-tags link how (l .links) i tags
+
+  wider : (x y : ℕ) → l .links x y ≡ true → linked x y ≡ true
+  unfolding linked
+  wider = binds-wider how (l .links) i tags
+
+  linked-bounded : Bounded (s .boards) linked
+  unfolding linked tags
+  linked-bounded =
+      binds-bounded (ok .board) how (l .links) tags
+      (all-tags (writer s (l .notes)) (writer-below s (l .notes) (c .boards)) (touched s a n))
+      (c .bounded)
+
+  linked-closed : All (λ k. Forward (has (k .members)) linked) (l .commits)
+  unfolding linked tags
+  linked-closed =
+      all-zip (λ k out f. binds-forward i tags (out .0) (out .1) f) (ok .outside) (c .closed)
+
+  older-reads : (x : Note) → All (Good linked (x ∷ l .notes)) (l .notes)
+  older-reads x = all-map (λ n h. good-more wider h) (c .reads)
+
+  order-wider : (x : ℕ) → Kept-order linked (writer s (l .notes) (x / s .size)) (marks (l .notes) x)
+  order-wider x =
+      let o = c .order x in
+      record { above = above-map (λ m h. to-more wider h) (o .above); top = top-map (λ m h. from-more wider h) (o .top) }
+
+  -- a cell of a touched block: what is known of its tag
+  tag-from : (x : ℕ) → anyOf (eqb (x / s .size)) (touched s a n) ≡ true → (m : ℕ)
+      → From (l .links) m (writer s (l .notes) (x / s .size)) → Chain linked i m
+  unfolding linked tags
+  tag-from x h =
+      all-found {P = λ t. (m : ℕ) → From (l .links) m t → Chain (bind-tags link how (l .links) i tags) i m}
+      (writer s (l .notes)) (x / s .size) (touched s a n) (binds-from how (l .links) i tags) h
+
+  -- a read's note
+  source-backed : (os : List (Option ℕ)) (x : ℕ) → anyOf (eqb (x / s .size)) (touched s a n) ≡ true
+      → Backed linked (record { board = i; cell = a; access = Read-from os; fate = pending } ∷ l .notes)
+      (record { board = i; cell = a; access = Read-from os; fate = pending }) (source (l .notes) x)
+  source-backed os x h = go (source (l .notes) x) refl
+    where
+      new : Note
+      new = record { board = i; cell = a; access = Read-from os; fate = pending }
+
+      by : {k : ℕ} → Sourced (l .links) (writer s (l .notes) (x / s .size)) (l .notes) k
+          → Backed linked (new ∷ l .notes) new (some k)
+      by (on-kept w e) = by-kept (At.older w) e
+      by (on-pending w e f) = by-pending (At.older w) e refl (tag-from x h _ f)
+
+      go : (o : Option ℕ) → source (l .notes) x ≡ o → Backed linked (new ∷ l .notes) new o
+      go none e = by-none
+      go (some k) e = by (sourced (l .links) (writer s (l .notes) (x / s .size)) (l .notes) x k (c .order x .top) e)
+
+-- what holds at each of n numbers from a on
+all-span : {X : Type 0} {P : X → Type 0} (f : ℕ → X) (a n : ℕ) → ((x : ℕ) → a ≤ x → x < a + n → P (f x))
+    → All P (span f a n)
+unfolding span
+all-span f a zero h = none
+all-span f a (suc n) h = also (h a (omega arith) (omega arith))
+    (all-span f (suc a) n (λ x lo hi. h x (omega arith) (omega arith)))
+
+module _ {s : Shape} {l : Ledger} (c : Consistent s l) {i a n : ℕ} (ok : Access-ok s one-way i a n l) where
+  pub noted-read : Consistent s (noted s one-way i a n (Read-from (span (source (l .notes)) a n)) l)
+  unfolding noted linked tags writer wrote-in written marks sources-of
+  noted-read =
+      let os = span (source (l .notes)) a n in
+      let new : Note = record { board = i; cell = a; access = Read-from os; fate = pending } in
+      record {
+        bounded = linked-bounded c ok;
+        boards = also (ok .board) (c .boards);
+        order = λ x. rw (read-covers i a x pending os) (order-wider c ok x);
+        reads =
+            also
+            (backed (all-span (source (l .notes)) a n (λ x lo hi.
+            source-backed c ok os x (cell-touched s a n x (ok .positive) (ok .few) lo hi))))
+            (older-reads c ok new);
+        closed = linked-closed c ok;
+      }
+
+module _ {s : Shape} {l : Ledger} (c : Consistent s l) {i a : ℕ} (bytes : List ℕ)
+    (ok : Access-ok s two-way i a (length bytes) l) where
+  new-write : Note
+  new-write = record { board = i; cell = a; access = Wrote bytes; fate = pending }
+
+  write-touches : (x : ℕ) → anyOf (eqb (x / s .size)) (touched s a (length bytes)) ≡ true
+      → wrote-in s (x / s .size) new-write ≡ true
+  unfolding wrote-in written new-write
+  write-touches x h = true-and (lt-ltb 0 (length bytes) (ok .some)) h
+
+  untouched : (x : ℕ) → anyOf (eqb (x / s .size)) (touched s a (length bytes)) ≡ false
+      → (wrote-in s (x / s .size) new-write ≡ false) × (covers new-write x ≡ false)
+  unfolding wrote-in written new-write covers
+  untouched x h = (
+    and-false (ltb 0 (length bytes)) h,
+    refute (leb a x && ltb x (a + length bytes)) (λ e.
+        let both = and-true (leb a x) (ltb x (a + length bytes)) e in
+        clash
+        (cell-touched s a (length bytes) x (ok .positive) (ok .few) (leb-true a x (both .0))
+        (ltb-true x (a + length bytes) (both .1)))
+        h),
+  )
+
+  tag-to : (x : ℕ) → anyOf (eqb (x / s .size)) (touched s a (length bytes)) ≡ true → (m : ℕ)
+      → To (l .links) m (writer s (l .notes) (x / s .size)) → Chain (linked c ok) m i
+  unfolding linked tags
+  tag-to x h =
+      all-found {P = λ t. (m : ℕ) → To (l .links) m t → Chain (linked c ok) m i}
+      (writer s (l .notes)) (x / s .size) (touched s a (length bytes)) (binds-to (l .links) i (tags c ok)) h
+
+  -- a cell of a touched block, covered or not
+  covered : (x : ℕ) → anyOf (eqb (x / s .size)) (touched s a (length bytes)) ≡ true → covers new-write x ≡ true
+      → Kept-order (linked c ok) (writer s (new-write ∷ l .notes) (x / s .size)) (marks (new-write ∷ l .notes) x)
+  unfolding writer marks mark is-pending new-write
+  covered x h e =
+      rw (write-touches x h, e)
+      (record {
+        above = Above.past-waits (to here) (above-map (λ m r. to (tag-to x h m r)) (c .order x .above));
+        top = Top.at-waits (from here);
+      })
+
+  beside : (x : ℕ) → anyOf (eqb (x / s .size)) (touched s a (length bytes)) ≡ true → covers new-write x ≡ false
+      → Kept-order (linked c ok) (writer s (new-write ∷ l .notes) (x / s .size)) (marks (new-write ∷ l .notes) x)
+  unfolding writer marks mark is-pending new-write
+  beside x h e =
+      rw (write-touches x h, e)
+      (record {
+        above = above-map (λ m r. to (tag-to x h m r)) (c .order x .above);
+        top = top-map (λ m r. from (tag-from c ok x h m r)) (c .order x .top);
+      })
+
+  elsewhere : (x : ℕ) → anyOf (eqb (x / s .size)) (touched s a (length bytes)) ≡ false
+      → Kept-order (linked c ok) (writer s (new-write ∷ l .notes) (x / s .size)) (marks (new-write ∷ l .notes) x)
+  unfolding writer marks new-write
+  elsewhere x h = let u = untouched x h in rw (u .0, u .1) (order-wider c ok x)
+
+  write-order : (x : ℕ)
+      → Kept-order (linked c ok) (writer s (new-write ∷ l .notes) (x / s .size)) (marks (new-write ∷ l .notes) x)
+  write-order x =
+      ⊎-elim
+      (λ (h : anyOf (eqb (x / s .size)) (touched s a (length bytes)) ≡ true).
+      ⊎-elim (covered x h) (beside x h) (decide (covers new-write x)))
+      (elsewhere x)
+      (decide (anyOf (eqb (x / s .size)) (touched s a (length bytes))))
+
+  pub noted-write : Consistent s (noted s two-way i a (length bytes) (Wrote bytes) l)
+  unfolding noted new-write linked tags sources-of
+  noted-write =
+      record {
+        bounded = linked-bounded c ok;
+        boards = also (ok .board) (c .boards);
+        order = write-order;
+        reads = also (backed none) (older-reads c ok new-write);
+        closed = linked-closed c ok;
+      }
+
+-- ---- commits
+
+pub started-ok : {s : Shape} {l : Ledger} → s .boards ≤ 16 → Consistent s l → (i : ℕ) → Consistent s (started i l)
+unfolding started
+started-ok h c i =
+    record {
+      bounded = c .bounded;
+      boards = c .boards;
+      order = c .order;
+      reads = c .reads;
+      closed = also (commit-group-forward (bounded-more (c .bounded) h) i) (c .closed);
+    }
+
+joined-closed : {d : Links} (i : ℕ) (cs : List Commit) → All (λ c. Forward (has (c .members)) d) cs
+    → All (λ c. Forward (has (c .members)) d) (map (acknowledged-by i) cs)
+unfolding acknowledged-by
+joined-closed i [] none = none
+joined-closed i (c ∷ cs) (also h hs) = also h (joined-closed i cs hs)
+
+pub handed-ok : {s : Shape} {l : Ledger} → Consistent s l → (i : ℕ) (context : List ℕ)
+    → Consistent s (with-context i context l)
+unfolding with-context
+handed-ok {l = l} c i context =
+    record {
+      bounded = c .bounded;
+      boards = c .boards;
+      order = c .order;
+      reads = c .reads;
+      closed = joined-closed i (l .commits) (c .closed);
+    }
+
+pub decided-ok : {s : Shape} {l : Ledger} → Consistent s l → (g : ℕ) → Forward (has g) (l .links)
+    → Consistent s (decided g l)
+unfolding decided
+decided-ok c g f =
+    let k = cleared-commit c (has g) f in
+    record { bounded = k .bounded; boards = k .boards; order = k .order; reads = k .reads; closed = k .closed }
+
+-- ---- the beginning, and what the claim says of the reads
+
+pub blank-ok : (s : Shape) → Consistent s (blank s)
+unfolding blank writer marks
+blank-ok s =
+    record {
+      bounded = unlinked-bounded (s .boards);
+      boards = none;
+      order = λ a. record { above = Above.empty; top = Top.empty };
+      reads = none;
+      closed = none;
+    }
+
+pub clean-reads : {s : Shape} {l : Ledger} → Consistent s l → anyOf (reads-undone (l .notes)) (l .notes) ≡ false
+clean-reads {l = l} c = anyOf-false (reads-undone (l .notes)) untainted (c .reads)

@@ -1,0 +1,187 @@
+-- How a call ends on a sound image: refused, with nothing changed; cut; or done.
+use Prim.Native.Nat.{ℕ, _≤_, _<_}
+use mathlib.Core.Path.{_≡_, refl, sym, _∙_, ap}
+use mathlib.Core.Bool.{Bool, true, false, _&&_, cond}
+use mathlib.Core.List.{List, [], _∷_, map}
+use mathlib.Core.Logic.{⊎-elim, _≢_}
+use lib.Dec.{eqb, ltb}
+use lib.ListN.{length, take, length-map}
+use lib.Seq.{take-all}
+use native.Mathlib.Omega.{arith}
+use borrow.Author.Tests.{eqb-true, eqb-false, ne-eqb, ltb-true, ltb-false, lt-ltb, le-ltb}
+use Rattle.protocol.specs.Lists.{anyOf}
+use Rattle.protocol.specs.Image.{Memory, Put, rank, raw, after, view}
+use Rattle.protocol.specs.Volatile.{off}
+use Rattle.protocol.specs.Calls.{Call, Read, Write, Start, Acknowledge, Fault, Power-up, Test, test, first, common, refusals, Plan, plan, budget, Outcome, refused as refuse, decides, executed, record-refused, perform}
+use Rattle.protocol.specs.Ledger.{Verdict, refused, done, cut}
+use Rattle.protocol.specs.Claim.{verdict}
+use Rattle.protocol.specs.declared.Shape.{Shape}
+use Rattle.protocol.specs.declared.Record.{Record}
+use Rattle.protocol.proofs.Basics.{decide, or-false, All, none, also, all-take, take-map}
+use Rattle.protocol.proofs.Bridge.{Sound, Valid, view-made-fun, made-sound, decides-raw}
+
+-- ---- refusals
+
+-- a test that does not stand in the way
+pub passed : (b : Bool) (n : ℕ) (ts : List Test) → n ≢ 0 → first (test b n ∷ ts) ≡ 0 → (b ≡ false) × (first ts ≡ 0)
+unfolding first
+passed true n ts h e = absurd (h e)
+passed false n ts h e = (refl, e)
+
+-- no refusal has the number that says "cut"
+uncut : (ts : List Test) → anyOf (λ t. eqb (t .number) 9) ts ≡ false → first ts ≢ 9
+unfolding first anyOf
+uncut [] h e = omega arith
+uncut (t ∷ ts) h e =
+    let both = or-false (eqb (t .number) 9) (anyOf (λ t. eqb (t .number) 9) ts) h in
+    ⊎-elim
+    (λ (b : t .holds ≡ true). eqb-false (t .number) 9 (both .0) (sym (ap (λ c. cond c (t .number) (first ts)) b) ∙ e))
+    (λ (b : t .holds ≡ false). uncut ts (both .1) (sym (ap (λ c. cond c (t .number) (first ts)) b) ∙ e))
+    (decide (t .holds))
+
+refusals-uncut : (image : List ℕ) (s : Shape) (m : Memory) (r : Record) (call : Call)
+    → anyOf (λ t. eqb (t .number) 9) (refusals image s m r call) ≡ false
+unfolding refusals common anyOf
+refusals-uncut image s m r (Read i a n room) = refl
+refusals-uncut image s m r (Write i a bytes k) = refl
+refusals-uncut image s m r (Start i context k) = refl
+refusals-uncut image s m r (Acknowledge i context k) = refl
+refusals-uncut image s m r (Fault i k) = refl
+refusals-uncut image s m r (Power-up k) = refl
+
+-- ---- stores made
+
+-- a put that sets the decision byte to 1
+unfoldable pub decisive : Put → Bool
+decisive p = eqb (rank (p .area)) 1 && eqb (p .value) 1
+
+decides-map : (s : Shape) (ps : List Put) → All (Valid s) ps → anyOf decides (map (raw s) ps) ≡ anyOf decisive ps
+unfolding anyOf decisive
+decides-map s [] none = refl
+decides-map s (p ∷ ps) (also v vs) = rw (decides-raw s p v, decides-map s ps vs)
+
+-- ---- how a call ends
+
+pub record Finished (s : Shape) (m : Memory) (p : Plan) (o : Outcome) : Type 0 where
+  pub ended : verdict o ≡ done
+  pub sound : Sound s (o .image)
+  pub memory : view s (o .image) ≡ after (p .stores) m
+  pub next : o .reply .next ≡ p .next
+  pub group : o .reply .answer .group ≡ p .group
+  pub bytes : o .bytes ≡ p .bytes
+  pub decided : o .reply .answer .decided ≡ anyOf decisive (p .stores)
+
+pub record Stopped (s : Shape) (m : Memory) (p : Plan) (k : ℕ) (o : Outcome) : Type 0 where
+  pub ended : verdict o ≡ cut
+  pub short : k < length (p .stores)
+  pub sound : Sound s (o .image)
+  pub memory : view s (o .image) ≡ after (take k (p .stores)) m
+  pub next : o .reply .next ≡ off
+  pub decided : o .reply .answer .decided ≡ anyOf decisive (take k (p .stores))
+
+pub data Result (s : Shape) (image : List ℕ) (r : Record) (call : Call) : Type 0 where
+  turned-away : verdict (perform image r call) ≡ refused → perform image r call .image ≡ image
+      → perform image r call .reply .next ≡ record-refused r call
+      → perform image r call .reply .answer .decided ≡ false → first (refusals image s (view s image) r call) ≢ 0
+      → Result s image r call
+  stopped : first (refusals image s (view s image) r call) ≡ 0
+      → Stopped s (view s image) (plan s (view s image) r call) (budget call) (perform image r call)
+      → Result s image r call
+  finished : first (refusals image s (view s image) r call) ≡ 0
+      → length (plan s (view s image) r call .stores) ≤ budget call
+      → Finished s (view s image) (plan s (view s image) r call) (perform image r call) → Result s image r call
+
+module _ {s : Shape} {image : List ℕ} (h : Sound s image) (r : Record) (call : Call) where
+  abbrev the-plan : Plan
+  the-plan = plan s (view s image) r call
+
+  abbrev number : ℕ
+  number = first (refusals image s (view s image) r call)
+
+  accepted : number ≡ 0
+      → perform image r call
+      ≡ executed (budget call) (map (raw s) (the-plan .stores)) image (the-plan .group) (the-plan .next) (the-plan .bytes)
+  unfolding perform
+  accepted e = rw (h .shape, e)
+
+  rejected : number ≢ 0 → perform image r call ≡ refuse number image (record-refused r call)
+  unfolding perform
+  rejected e = rw (h .shape, ne-eqb number 0 e)
+
+  refused-result : number ≢ 0 → Result s image r call
+  unfolding refuse verdict
+  refused-result e =
+      let o = rejected e in
+      turned-away
+      (ap verdict o ∙ rw (
+        ne-eqb number 0 e,
+        ne-eqb number 9
+            (uncut (refusals image s (view s image) r call) (refusals-uncut image s (view s image) r call)),
+      ))
+      (ap (λ x. x .image) o)
+      (ap (λ x. x .reply .next) o)
+      (ap (λ x. x .reply .answer .decided) o)
+      e
+
+  cut-result : number ≡ 0 → All (Valid s) (the-plan .stores) → budget call < length (the-plan .stores)
+      → Result s image r call
+  unfolding executed verdict
+  cut-result e v l =
+      let o = accepted e in
+      let k = budget call in
+      let ps = the-plan .stores in
+      let some = take-map k (raw s) ps in
+      let valid = all-take k v in
+      let short : ltb k (length (map (raw s) ps)) ≡ true = rw (length-map ps (raw s)) (lt-ltb k (length ps) l) in
+      stopped e
+      (record {
+        ended = ap verdict o ∙ rw short;
+        short = l;
+        sound = rw (ap (λ x. x .image) o, some) (made-sound h valid);
+        memory = ap (λ x. view s (x .image)) o ∙ rw some (view-made-fun s (take k ps) image (h .long) valid);
+        next = ap (λ x. x .reply .next) o ∙ rw short;
+        decided = ap (λ x. x .reply .answer .decided) o ∙ rw some (decides-map s (take k ps) valid);
+      })
+
+  done-result : number ≡ 0 → All (Valid s) (the-plan .stores) → length (the-plan .stores) ≤ budget call
+      → Result s image r call
+  unfolding executed verdict
+  done-result e v l =
+      let o = accepted e in
+      let k = budget call in
+      let ps = the-plan .stores in
+      let all = take-map k (raw s) ps ∙ ap (map (raw s)) (take-all k ps l) in
+      let long : ltb k (length (map (raw s) ps)) ≡ false = rw (length-map ps (raw s)) (le-ltb k (length ps) l) in
+      finished e l
+      (record {
+        ended = ap verdict o ∙ rw long;
+        sound = rw (ap (λ x. x .image) o, all) (made-sound h v);
+        memory = ap (λ x. view s (x .image)) o ∙ rw all (view-made-fun s ps image (h .long) v);
+        next = ap (λ x. x .reply .next) o ∙ rw long;
+        group = ap (λ x. x .reply .answer .group) o ∙ rw long;
+        bytes = ap (λ x. x .bytes) o ∙ rw long;
+        decided = ap (λ x. x .reply .answer .decided) o ∙ rw all (decides-map s ps v);
+      })
+
+  pub result : (number ≡ 0 → All (Valid s) (the-plan .stores)) → Result s image r call
+  result v =
+      ⊎-elim
+      (λ (e : eqb number 0 ≡ true).
+      let z = eqb-true number 0 e in
+      ⊎-elim
+      (λ (f : ltb (budget call) (length (the-plan .stores)) ≡ true). cut-result z (v z) (ltb-true _ _ f))
+      (λ (f : ltb (budget call) (length (the-plan .stores)) ≡ false). done-result z (v z) (ltb-false _ _ f))
+      (decide (ltb (budget call) (length (the-plan .stores)))))
+      (λ (e : eqb number 0 ≡ false). refused-result (eqb-false number 0 e))
+      (decide (eqb number 0))
+
+-- verdicts exclude each other
+module _ {X : Type 0} {v : Verdict} where
+  pub not-done : v ≡ refused → v ≡ done → X
+  not-done p q = let z : _≡_ {A = ℕ} 0 1 = cc in absurd (omega arith)
+
+  pub cut-not-done : v ≡ cut → v ≡ done → X
+  cut-not-done p q = let z : _≡_ {A = ℕ} 0 1 = cc in absurd (omega arith)
+
+  pub not-cut : v ≡ refused → v ≡ cut → X
+  not-cut p q = let z : _≡_ {A = ℕ} 0 1 = cc in absurd (omega arith)

@@ -1,0 +1,184 @@
+-- The plans of calls that are not refused: their puts stand in their areas, and which of them decides.
+use Prim.Native.Nat.{ℕ, suc, _+_, _-_, _*_, _/_, _%_, _≤_, _<_}
+use native.Mathlib.Nat.{mul-le-mul-right, suc-mul}
+use mathlib.Core.Path.{_≡_, refl, sym, _∙_, ap, subst}
+use mathlib.Core.Bool.{Bool, true, false, _||_, not}
+use mathlib.Core.List.{List, [], _∷_, _++_, append-nil}
+use mathlib.Core.Logic.{⊎-elim, _≢_}
+use lib.Dec.{eqb, ltb, leb}
+use lib.ListN.{length, take}
+use native.Mathlib.Omega.{arith}
+use borrow.Author.Tests.{eqb-false, ne-eqb, ltb-false, leb-false}
+use Rattle.protocol.specs.Lists.{anyOf}
+use Rattle.protocol.specs.Image.{Decision, Group, Tags, Current, Recovery, Tentative, Memory, Put, put, rank, size, after, cells, in-order, shape-of}
+use Rattle.protocol.specs.Volatile.{bad-record}
+use Rattle.protocol.specs.Calls.{Test, test, first, common, bad-range, tagged-in, tagged, touched, stored-group, placing, tagging, completing, deciding, completed-first, recovering}
+use Rattle.protocol.specs.declared.Shape.{Shape}
+use Rattle.protocol.specs.declared.Record.{Record}
+use Rattle.protocol.proofs.Basics.{or-false, All, none, also, all-append, all-cond, all-map, anyOf-false, or-right, all-take, take-append}
+use Rattle.protocol.proofs.Bridge.{Valid}
+use Rattle.protocol.proofs.Copies.{Inside, placing-inside, blocks-inside, contexts-inside, current, recovery}
+use Rattle.protocol.proofs.Safety.{block-below, announced, announced-length, announced-areas, stores-parts, deciding-stores, decision}
+use Rattle.protocol.proofs.Outcomes.{passed, decisive}
+
+-- ---- tests passed
+
+pub record Passed (s : Shape) (r : Record) (i : ℕ) (ts : List Test) : Type 0 where
+  pub recorded : bad-record (s .boards) r ≡ false
+  pub board : i < s .boards
+  pub rest : first ts ≡ 0
+
+pub common-passed : {s : Shape} (image : List ℕ) (r : Record) (i : ℕ) (ts : List Test) → shape-of image ≡ s
+    → first (common image r i ts) ≡ 0 → Passed s r i ts
+unfolding common
+common-passed {s} image r i ts h e =
+    let p = shape-of image .boards in
+    let one = passed (not (in-order 0 image)) 11 (test (bad-record p r) 12 ∷ test (leb p i) 1 ∷ ts) (omega arith) e in
+    let two = passed (bad-record p r) 12 (test (leb p i) 1 ∷ ts) (omega arith) (one .1) in
+    let three = passed (leb p i) 1 ts (omega arith) (two .1) in
+    record {
+      recorded = subst (λ t. bad-record (t .boards) r ≡ false) h (two .0);
+      board = subst (λ t. i < t .boards) h (leb-false p i (three .0));
+      rest = three .1;
+    }
+
+-- the cells of an access that is not refused
+pub record Ranged (s : Shape) (a n : ℕ) : Type 0 where
+  pub some : 0 < n
+  pub few : n ≤ s .size
+  pub within : a + n ≤ cells s
+
+pub ranged : (s : Shape) (a n : ℕ) → bad-range s a n ≡ false → Ranged s a n
+unfolding bad-range
+ranged s a n e =
+    let rest = ltb (s .size) n || (ltb (cells s) (a + n) || not (eqb (a / s .size) ((a + n - 1) / s .size))) in
+    let one = or-false (eqb n 0) rest e in
+    let two = or-false (ltb (s .size) n) (ltb (cells s) (a + n) || not (eqb (a / s .size) ((a + n - 1) / s .size)))
+    (one .1) in
+    let three = or-false (ltb (cells s) (a + n)) (not (eqb (a / s .size) ((a + n - 1) / s .size))) (two .1) in
+    let positive = eqb-false n 0 (one .0) in
+    record {
+      some = omega arith;
+      few = ltb-false (s .size) n (two .0);
+      within = ltb-false (cells s) (a + n) (three .0);
+    }
+
+pub touched-below : (s : Shape) (a n : ℕ) → 0 < s .size → Ranged s a n → All (λ b. b < s .blocks) (touched s a n)
+unfolding touched
+touched-below s a n positive r =
+    let some = r .some in
+    let within = r .within in
+    let last : a + n - 1 < cells s = omega arith in
+    also (block-below s a positive (omega arith))
+    (all-cond (eqb (a / s .size) ((a + n - 1) / s .size)) (λ e. none)
+    (λ e. also (block-below s (a + n - 1) positive last) none))
+
+-- ---- puts in their areas
+
+pub inside-valid : {s : Shape} {ps : List Put} → All (Inside s) ps → All (Valid s) ps
+inside-valid = all-map (λ p h. record { body = omega arith; within = h .inside })
+
+tagging-inside : (s : Shape) (m : Memory) (i : ℕ) (bs : List ℕ) → All (λ b. b < s .blocks) bs
+    → All (Inside s) (tagging m i bs)
+unfolding tagging rank size
+tagging-inside s m i [] none = none
+tagging-inside s m i (b ∷ bs) (also h hs) =
+    all-append
+    (all-cond (eqb (m Tags b) (suc i)) (λ e. none) (λ e. also (record { past = omega arith; inside = h }) none))
+    (tagging-inside s m i bs hs)
+
+pub write-inside : (s : Shape) (m : Memory) (i a : ℕ) (bytes : List ℕ) → 0 < s .size → Ranged s a (length bytes)
+    → All (Inside s) (tagging m i (touched s a (length bytes)) ++ placing Current a bytes)
+unfolding rank size
+write-inside s m i a bytes positive r =
+    all-append
+    (tagging-inside s m i (touched s a (length bytes)) (touched-below s a (length bytes) positive r))
+    (placing-inside s Current a bytes (omega arith) (r .within))
+
+pub given-inside : (s : Shape) (i : ℕ) (bytes : List ℕ) → i < s .boards → length bytes ≡ s .context
+    → All (Inside s) (placing Tentative (i * s .context) bytes)
+unfolding rank size
+given-inside s i bytes l e =
+    placing-inside s Tentative (i * s .context) bytes (omega arith)
+    (omega (arith, suc-mul i (s .context), mul-le-mul-right (s .context) l))
+
+decision-valid : (s : Shape) (v : ℕ) → Valid s (put Decision 0 v)
+unfolding rank size
+decision-valid s v = record { body = omega arith; within = omega arith }
+
+group-valid : (s : Shape) (i v : ℕ) → i < 2 → Valid s (put Group i v)
+unfolding rank size
+group-valid s i v l = record { body = omega arith; within = l }
+
+pub completing-valid : (s : Shape) (m : Memory) (g : ℕ) → All (Valid s) (completing s m g)
+unfolding completing
+completing-valid s m g =
+    all-append (inside-valid (blocks-inside s m Current Recovery (tagged-in g) recovery))
+    (all-append (inside-valid (contexts-inside s m g)) (also (decision-valid s 0) none))
+
+pub deciding-valid : (s : Shape) (m : Memory) (g : ℕ) → All (Valid s) (deciding s m g)
+unfolding deciding
+deciding-valid s m g =
+    also (group-valid s 0 (g % 256) (omega arith))
+    (also (group-valid s 1 (g / 256) (omega arith)) (also (decision-valid s 1) (completing-valid s m g)))
+
+pub recovering-valid : (s : Shape) (m : Memory) → All (Valid s) (recovering s m)
+unfolding recovering completed-first
+recovering-valid s m =
+    all-append
+    (all-cond (eqb (m Decision 0) 1) (λ e. completing-valid s m (stored-group m)) (λ e. none))
+    (inside-valid (blocks-inside s (after (completed-first s m) m) Recovery Current tagged current))
+
+-- ---- which put decides
+
+anyOf-append : {X : Type 0} (t : X → Bool) (xs ys : List X) → anyOf t (xs ++ ys) ≡ anyOf t xs || anyOf t ys
+unfolding anyOf
+anyOf-append t [] ys = refl
+anyOf-append t (x ∷ xs) ys = ap (λ b. t x || b) (anyOf-append t xs ys) ∙ sym (or-assoc (t x) (anyOf t xs) (anyOf t ys))
+  where
+    or-assoc : (a b c : Bool) → (a || b) || c ≡ a || (b || c)
+    or-assoc true b c = refl
+    or-assoc false b c = refl
+
+-- a put outside the decision byte does not
+pub indecisive : {ps : List Put} → All (λ p. rank (p .area) ≢ 1) ps → anyOf decisive ps ≡ false
+unfolding decisive
+indecisive = anyOf-false decisive (λ p h. rw (ne-eqb (rank (p .area)) 1 h))
+
+pub inside-indecisive : {s : Shape} {ps : List Put} → All (Inside s) ps → anyOf decisive ps ≡ false
+inside-indecisive h = indecisive (all-map (λ p i. omega arith) h)
+
+module _ (s : Shape) (m : Memory) (i g : ℕ) (bytes : List ℕ) where
+  announced-indecisive : (k : ℕ) → anyOf decisive (take k (announced s m i g bytes)) ≡ false
+  unfolding rank
+  announced-indecisive k =
+      indecisive (all-take k (all-map (λ p h e. ⊎-elim (λ f. omega arith) (λ f. omega arith) h)
+      (announced-areas s m i g bytes)))
+
+  pub undecided-before : (k : ℕ) → k < length bytes + 3
+      → anyOf decisive (take k (deciding-stores s m i g bytes)) ≡ false
+  undecided-before k l =
+      let len = announced-length s m i g bytes in
+      let none : k - length (announced s m i g bytes) ≡ 0 = omega arith in
+      rw (
+        stores-parts s m i g bytes,
+        take-append k (announced s m i g bytes)
+            (put Decision 0 1 ∷ completing s (decision s m i g bytes) g),
+        none,
+        append-nil,
+      )
+      (announced-indecisive k)
+
+  pub decided-after : (k : ℕ) → length bytes + 3 ≤ k → anyOf decisive (take k (deciding-stores s m i g bytes)) ≡ true
+  unfolding anyOf decisive rank
+  decided-after k l =
+      let len = announced-length s m i g bytes in
+      let past : k - length (announced s m i g bytes) ≡ suc (k - (length bytes + 3)) = omega arith in
+      rw (
+        stores-parts s m i g bytes,
+        take-append k (announced s m i g bytes)
+            (put Decision 0 1 ∷ completing s (decision s m i g bytes) g),
+        past,
+        anyOf-append,
+      )
+      (or-right (anyOf decisive (take k (announced s m i g bytes))) refl)

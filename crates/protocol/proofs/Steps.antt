@@ -1,0 +1,283 @@
+-- Every call that is done keeps memory, record and ledger in agreement.
+use Prim.Native.Nat.{ℕ, zero, suc, _+_, _-_, _*_, _/_, _≤_, _<_}
+use mathlib.Core.Path.{_≡_, refl, sym, _∙_, ap, subst}
+use mathlib.Core.Bool.{Bool, true, false, _&&_}
+use mathlib.Core.List.{List, [], _∷_, _++_, map}
+use mathlib.Core.Option.{some}
+use mathlib.Core.Logic.{⊎-elim, _≢_}
+use lib.Dec.{eqb, ltb, leb}
+use lib.ListN.{length, getD}
+use lib.Seq.{take-all}
+use native.Mathlib.Omega.{arith}
+use borrow.Author.Tests.{ltb-true, ltb-false, leb-true, lt-ltb, le-leb}
+use Rattle.protocol.specs.Lists.{span, anyOf}
+use Rattle.protocol.specs.Boards.{has, meets, link, unlink, Binding, one-way, two-way, bind-boards, bind-tag, bind-tags}
+use Rattle.protocol.specs.Image.{Area, Decision, Tags, Current, Recovery, Tentative, Checkpoint, Memory, rank, after, cells}
+use Rattle.protocol.specs.Volatile.{closed, depends, depend, clear}
+use Rattle.protocol.specs.Calls.{tagged-in, touched, tags-of, placing, tagging, blocks-copied}
+use Rattle.protocol.specs.Ledger.{pending, undone, Wrote, Read-from, Note, Ledger, is-pending, covers, written, wrote-in, writer, source, cleared, noted}
+use Rattle.protocol.specs.declared.Shape.{Shape}
+use Rattle.protocol.specs.declared.Record.{Record}
+use Rattle.protocol.proofs.Basics.{decide, clash, and-true, true-and, and-false, All, none, also}
+use Rattle.protocol.proofs.Memory.{after-append}
+use Rattle.protocol.proofs.Groups.{Backward, Bounded, bounded-more, links-ext, depends-depend, depends-clear, link-bounded, has-zero}
+use Rattle.protocol.proofs.Marks.{mark, marks, live, saved, tag-in, marks-settled, writer-settled, undoes, rollback-same, rollback-saved}
+use Rattle.protocol.proofs.Consistent.{Access-ok, all-tags, writer-below, read-covers, noted-read, noted-write, cleared-rollback}
+use Rattle.protocol.proofs.Copies.{copied, placing-other, placing-outside, placing-whole}
+use Rattle.protocol.proofs.Safety.{block-below, write-tagged}
+use Rattle.protocol.proofs.Agreement.{On, agrees-clear, tag-in-same, untag-in, untag-out, rollback-in}
+
+-- ---- the record's dependences
+
+-- linking in the record is linking of its dependences
+module _ {i : ℕ} (small : i < 16) where
+  depends-tie : (how : Binding) (r : Record) (j : ℕ) → j < 16 → Bounded 16 (depends r)
+      → (depends (bind-boards depend how r i j) ≡ bind-boards link how (depends r) i j) × Bounded 16
+      (depends (bind-boards depend how r i j))
+  unfolding bind-boards
+  depends-tie one-way r j l b =
+      let one = links-ext (depends-depend r b small l) in
+      (one, subst (λ d. Bounded 16 d) (sym one) (link-bounded b small l))
+  depends-tie two-way r j l b =
+      let one = links-ext (depends-depend r b small l) in
+      let b₁ = subst (λ d. Bounded 16 d) (sym one) (link-bounded b small l) in
+      let two = links-ext (depends-depend (depend r i j) b₁ l small) ∙ ap (λ d. link d j i) one in
+      (two, subst (λ d. Bounded 16 d) (sym two) (link-bounded (link-bounded b small l) l small))
+
+  depends-bind : (how : Binding) (r : Record) (t : ℕ) → t ≤ 16 → Bounded 16 (depends r)
+      → (depends (bind-tag depend how r i t) ≡ bind-tag link how (depends r) i t) × Bounded 16
+      (depends (bind-tag depend how r i t))
+  unfolding bind-tag
+  depends-bind how r zero l b = (refl, b)
+  depends-bind how r (suc j) l b =
+      ⊎-elim (λ (e : eqb i j ≡ true). rw e (refl, b)) (λ (e : eqb i j ≡ false). rw e (depends-tie how r j l b))
+      (decide (eqb i j))
+
+  pub depends-binds : (how : Binding) (r : Record) (ts : List ℕ) → All (λ t. t ≤ 16) ts → Bounded 16 (depends r)
+      → depends (bind-tags depend how r i ts) ≡ bind-tags link how (depends r) i ts
+  unfolding bind-tags
+  depends-binds how r [] none b = refl
+  depends-binds how r (t ∷ ts) (also l ls) b =
+      let one = depends-bind how r t l b in
+      depends-binds how (bind-tag depend how r i t) ts ls (one .1) ∙ ap (λ d. bind-tags link how d i ts) (one .0)
+
+-- it leaves the open commit alone
+commit-tie : (how : Binding) (r : Record) (i j : ℕ) → bind-boards depend how r i j .commit ≡ r .commit
+unfolding bind-boards depend
+commit-tie one-way r i j = refl
+commit-tie two-way r i j = refl
+
+commit-bind : (how : Binding) (r : Record) (i t : ℕ) → bind-tag depend how r i t .commit ≡ r .commit
+unfolding bind-tag
+commit-bind how r i zero = refl
+commit-bind how r i (suc j) =
+    ⊎-elim (λ (e : eqb i j ≡ true). rw e) (λ (e : eqb i j ≡ false). rw e (commit-tie how r i j)) (decide (eqb i j))
+
+pub commit-binds : (how : Binding) (r : Record) (i : ℕ) (ts : List ℕ)
+    → bind-tags depend how r i ts .commit ≡ r .commit
+unfolding bind-tags
+commit-binds how r i [] = refl
+commit-binds how r i (t ∷ ts) = commit-binds how (bind-tag depend how r i t) i ts ∙ commit-bind how r i t
+
+-- ---- accesses
+
+-- the tags of the touched blocks are the last writers that the ledger notes
+pub tags-written : {s : Shape} {m : Memory} {r : Record} {l : Ledger} → On s m r l → (bs : List ℕ)
+    → All (λ b. b < s .blocks) bs
+    → map (m Tags) bs ≡ map (writer s (l .notes)) bs
+tags-written h [] none = refl
+tags-written h (b ∷ bs) (also k ks) = rw (h .tags b k, tags-written h bs ks)
+
+module _ {s : Shape} {m : Memory} {r : Record} {l : Ledger} (h : On s m r l) (most : s .boards ≤ 16) where
+  pub depends-bounded : Bounded 16 (depends r)
+  depends-bounded = subst (λ d. Bounded 16 d) (sym (h .links)) (bounded-more (h .consistent .bounded) most)
+
+  small-tag : (b : ℕ) → writer s (l .notes) b ≤ 16
+  small-tag b = let k = writer-below s (l .notes) (h .consistent .boards) b in omega arith
+
+  access-links : (how : Binding) (i a n : ℕ) → i < s .boards → All (λ b. b < s .blocks) (touched s a n)
+      → depends (bind-tags depend how r i (tags-of s m a n)) ≡ bind-tags link how (l .links) i
+      (map (writer s (l .notes)) (touched s a n))
+  access-links how i a n small below =
+      let ts = map (writer s (l .notes)) (touched s a n) in
+      ap (λ us. depends (bind-tags depend how r i us)) (tags-written h (touched s a n) below)
+      ∙ depends-binds {i = i} (omega arith) how r ts
+      (all-tags (writer s (l .notes)) small-tag (touched s a n)) depends-bounded
+      ∙ ap (λ d. bind-tags link how d i ts) (h .links)
+
+  -- a read
+  pub read-done : {i a n : ℕ} → Access-ok s one-way i a n l → All (λ b. b < s .blocks) (touched s a n)
+      → On s m (bind-tags depend one-way r i (tags-of s m a n))
+      (noted s one-way i a n (Read-from (span (source (l .notes)) a n)) l)
+  unfolding noted writer wrote-in written marks
+  read-done {i} {a} {n} ok below =
+      let os = span (source (l .notes)) a n in
+      let same = commit-binds one-way r i (tags-of s m a n) in
+      record {
+        consistent = noted-read (h .consistent) ok;
+        links = access-links one-way i a n (ok .board) below;
+        undecided = h .undecided;
+        tags = h .tags;
+        current = λ c k. rw (read-covers i a c pending os) (h .current c k);
+        recovery = λ c k. rw (read-covers i a c pending os) (h .recovery c k);
+        contexts = h .contexts;
+        lengths = h .lengths;
+        commit = rw same (h .commit);
+        given = λ j x k d e. h .given j x k d (rw same at e);
+      }
+
+  -- a write: the touched blocks are tagged, the covered cells hold the bytes
+  module _ {i a : ℕ} (bytes : List ℕ) (ok : Access-ok s two-way i a (length bytes) l)
+      (below : All (λ b. b < s .blocks) (touched s a (length bytes))) where
+    abbrev bs : List ℕ
+    bs = touched s a (length bytes)
+
+    abbrev tagged-memory : Memory
+    tagged-memory = after (tagging m i bs) m
+
+    abbrev written-memory : Memory
+    written-memory = after (tagging m i bs ++ placing Current a bytes) m
+
+    new : Note
+    new = record { board = i; cell = a; access = Wrote bytes; fate = pending }
+
+    split : written-memory ≡ after (placing Current a bytes) tagged-memory
+    split = after-append (tagging m i bs) (placing Current a bytes) m
+
+    -- areas other than the current bank
+    beyond-cells : (b : Area) (j : ℕ) → rank Current ≢ rank b → written-memory b j ≡ tagged-memory b j
+    beyond-cells b j e =
+        ap (λ n. n b j) split
+        ∙ subst (λ ps. after ps tagged-memory b j ≡ tagged-memory b j)
+        (take-all (length (placing Current a bytes)) (placing Current a bytes) (omega arith))
+        (placing-other Current a bytes tagged-memory (length (placing Current a bytes)) b j e)
+
+    beyond-tags : (b : Area) (j : ℕ) → rank Current ≢ rank b → rank b ≢ rank Tags → written-memory b j ≡ m b j
+    beyond-tags b j e f = beyond-cells b j e ∙ write-tagged s m i a (length bytes) .other b j f
+
+    write-tags : (b : ℕ) → b < s .blocks → written-memory Tags b ≡ writer s (new ∷ l .notes) b
+    unfolding writer wrote-in written new is-pending rank
+    write-tags b k =
+        let t = write-tagged s m i a (length bytes) in
+        let n = lt-ltb 0 (length bytes) (ok .some) in
+        beyond-cells Tags b (omega arith)
+        ∙ ⊎-elim
+        (λ (e : anyOf (eqb b) bs ≡ true). t .hit b e ∙ rw (n, e))
+        (λ (e : anyOf (eqb b) bs ≡ false). t .miss b e ∙ h .tags b k ∙ rw (and-false (ltb 0 (length bytes)) e))
+        (decide (anyOf (eqb b) bs))
+
+    write-cell : (c : ℕ) → c < cells s → written-memory Current c ≡ live (marks (new ∷ l .notes) c)
+    unfolding marks mark live new covers written rank
+    write-cell c k =
+        ap (λ n. n Current c) split
+        ∙ ⊎-elim
+        (λ (e : leb a c && ltb c (a + length bytes) ≡ true).
+        let both = and-true (leb a c) (ltb c (a + length bytes)) e in
+        let lo = leb-true a c (both .0) in
+        let hi = ltb-true c (a + length bytes) (both .1) in
+        let at : a + (c - a) ≡ c = omega arith in
+        subst (λ x. after (placing Current a bytes) tagged-memory Current x ≡ getD bytes (c - a) 0) at
+        (placing-whole Current a bytes tagged-memory (c - a) (omega arith))
+        ∙ rw e)
+        (λ (e : leb a c && ltb c (a + length bytes) ≡ false).
+        subst (λ ps. after ps tagged-memory Current c ≡ tagged-memory Current c)
+        (take-all (length (placing Current a bytes)) (placing Current a bytes) (omega arith))
+        (placing-outside Current a bytes tagged-memory (length (placing Current a bytes)) c (λ lo. outside c lo e))
+        ∙ write-tagged s m i a (length bytes) .other Current c (omega arith)
+        ∙ h .current c k
+        ∙ rw e)
+        (decide (leb a c && ltb c (a + length bytes)))
+      where
+        outside : (c : ℕ) → a ≤ c → leb a c && ltb c (a + length bytes) ≡ false → a + length bytes ≤ c
+        outside c lo e =
+            ⊎-elim
+            (λ (f : ltb c (a + length bytes) ≡ true). clash (true-and (le-leb a c lo) f) e)
+            (λ (f : ltb c (a + length bytes) ≡ false). ltb-false c (a + length bytes) f)
+            (decide (ltb c (a + length bytes)))
+
+    -- a pending write keeps nothing yet
+    write-kept : (c : ℕ) → saved (marks (new ∷ l .notes) c) ≡ saved (marks (l .notes) c)
+    unfolding marks mark saved new
+    write-kept c = ⊎-elim (λ (e : covers new c ≡ true). rw e) (λ (e : covers new c ≡ false). rw e) (decide (covers new c))
+
+    pub write-done : On s written-memory (bind-tags depend two-way r i (tags-of s m a (length bytes)))
+        (noted s two-way i a (length bytes) (Wrote bytes) l)
+    unfolding noted rank new
+    write-done =
+        let same = commit-binds two-way r i (tags-of s m a (length bytes)) in
+        record {
+          consistent = noted-write (h .consistent) bytes ok;
+          links = access-links two-way i a (length bytes) (ok .board) below;
+          undecided = beyond-tags Decision 0 (omega arith) (omega arith) ∙ h .undecided;
+          tags = write-tags;
+          current = write-cell;
+          recovery = λ c k. beyond-tags Recovery c (omega arith) (omega arith) ∙ h .recovery c k ∙ sym (write-kept c);
+          contexts = λ j x k d. beyond-tags Checkpoint (j * s .context + x) (omega arith) (omega arith)
+              ∙ h .contexts j x k d;
+          lengths = h .lengths;
+          commit = rw same (h .commit);
+          given = λ j x k d e. beyond-tags Tentative (j * s .context + x) (omega arith) (omega arith) ∙ h .given j x k d
+              (rw same at e);
+        }
+
+  -- ---- a fault
+
+  module _ (positive : 0 < s .size) (g : ℕ) (back : Backward (has g) (l .links)) where
+    abbrev restored : Memory
+    restored = after (blocks-copied s m Recovery Current (tagged-in g)) m
+
+    -- a block's tag, seen from memory and from the notes
+    tag-noted : (b : ℕ) → b < s .blocks → (t : Bool) → tagged-in g (m Tags b) ≡ t
+        → tag-in (has g) (writer s (l .notes) b) ≡ t
+    tag-noted b k t e = sym (tag-in-same g (writer s (l .notes) b)) ∙ ap (tagged-in g) (sym (h .tags b k)) ∙ e
+
+    cleared-given : (j : ℕ) → has (clear r g .commit .acknowledged) j ≡ true → has (r .commit .acknowledged) j ≡ true
+    unfolding clear closed
+    cleared-given j e =
+        ⊎-elim
+        (λ (t : meets (r .commit .members) (has g) ≡ true). clash (rw t at e) (has-zero j))
+        (λ (t : meets (r .commit .members) (has g) ≡ false). rw t at e)
+        (decide (meets (r .commit .members) (has g)))
+
+    pub fault-done : On s restored (clear r g) (cleared (has g) undone l)
+    unfolding cleared rank
+    fault-done =
+        let c = copied s Recovery Current (tagged-in g) (omega arith) positive m in
+        record {
+          consistent = cleared-rollback (h .consistent) (has g) back;
+          links = links-ext (depends-clear r depends-bounded g) ∙ ap (unlink (has g)) (h .links);
+          undecided = c .other Decision (omega arith) (omega arith) 0 ∙ h .undecided;
+          tags =
+              λ b k.
+              rw (writer-settled s (has g) undoes (l .notes) b)
+              (⊎-elim
+              (λ (e : tagged-in g (m Tags b) ≡ true).
+              c .tag-zero b k e ∙ sym (untag-in (has g) (writer s (l .notes) b) (tag-noted b k true e)))
+              (λ (e : tagged-in g (m Tags b) ≡ false).
+              c .tag-left b e ∙ h .tags b k ∙ sym (untag-out (has g) (writer s (l .notes) b) (tag-noted b k false e)))
+              (decide (tagged-in g (m Tags b))));
+          current =
+              λ a k.
+              let b = a / s .size in
+              let b< = block-below s a positive k in
+              let order = h .consistent .order a in
+              rw (marks-settled (has g) undone (l .notes) a)
+              (⊎-elim
+              (λ (e : tagged-in g (m Tags b) ≡ true).
+              c .cell-copied a b< e ∙ h .recovery a k ∙ sym
+              (rollback-in (writer s (l .notes) b) back order (tag-noted b b< true e)))
+              (λ (e : tagged-in g (m Tags b) ≡ false).
+              c .cell-left a e ∙ h .current a k ∙ sym (rollback-same back (tag-noted b b< false e) (order .top)))
+              (decide (tagged-in g (m Tags b))));
+          recovery =
+              λ a k.
+              rw (marks-settled (has g) undone (l .notes) a)
+              (c .other Recovery (omega arith) (omega arith) a ∙ h .recovery a k ∙ sym
+              (rollback-saved (has g) (marks (l .notes) a)));
+          contexts = λ i x k d. c .other Checkpoint (omega arith) (omega arith) (i * s .context + x)
+              ∙ h .contexts i x k d;
+          lengths = h .lengths;
+          commit = agrees-clear r g (h .commit);
+          given = λ i x k d e. c .other Tentative (omega arith) (omega arith) (i * s .context + x) ∙ h .given i x k d
+              (cleared-given i e);
+        }
