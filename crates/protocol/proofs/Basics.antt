@@ -109,17 +109,23 @@ unfolding every
 every-all zero p h = refl
 every-all (suc n) p h = true-and (every-all n p (λ i l. h i (omega arith))) (h n (omega arith))
 
+-- some number passes exactly if not every number fails
+any-every : (n : ℕ) (p : ℕ → Bool) → any n p ≡ not (every n (λ i. not (p i)))
+unfolding any every
+any-every zero p = refl
+any-every (suc n) p = rw (any-every n p) (either (every n (λ i. not (p i))) (p n))
+  where
+    either : (a b : Bool) → not a || b ≡ not (a && not b)
+    either true true = refl
+    either true false = refl
+    either false b = refl
+
 pub any-none : (n : ℕ) (p : ℕ → Bool) → any n p ≡ false → (i : ℕ) → i < n → p i ≡ false
-unfolding any
-any-none zero p h i l = below-zero l
-any-none (suc n) p h i l =
-    let both = or-false (any n p) (p n) h in
-    ⊎-elim (λ k. any-none n p (both .0) i k) (λ e. ap p e ∙ both .1) (below-suc i n l)
+any-none n p h i l =
+    not-true (p i) (every-at n (λ i. not (p i)) (not-false _ (sym (any-every n p) ∙ h)) i l)
 
 pub none-any : (n : ℕ) (p : ℕ → Bool) → ((i : ℕ) → i < n → p i ≡ false) → any n p ≡ false
-unfolding any
-none-any zero p h = refl
-none-any (suc n) p h = false-or (none-any n p (λ i l. h i (omega arith))) (h n (omega arith))
+none-any n p h = any-every n p ∙ ap not (every-all n (λ i. not (p i)) (λ i l. ap not (h i l)))
 
 pub some-any : (n : ℕ) (p : ℕ → Bool) (i : ℕ) → i < n → p i ≡ true → any n p ≡ true
 some-any n p i l h = go (decide (any n p))
