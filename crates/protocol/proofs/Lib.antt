@@ -17,3 +17,4 @@ pub mod Steps
 pub mod Commits
 pub mod Acknowledging
 pub mod Demand3
+pub mod Masks

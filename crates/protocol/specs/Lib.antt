@@ -6,3 +6,4 @@ pub mod Calls
 pub mod Ledger
 pub mod Claim
 pub mod Example
+pub mod Rows
