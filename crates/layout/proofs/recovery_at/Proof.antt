@@ -1,0 +1,24 @@
+-- `layout::recovery_at` meets its contract, by the bounds of an allowed shape.
+use borrow.Author.Needs.{needs}
+use native.Mathlib.Omega.{arith}
+use Rattle.protocol.specs.Image.{base}
+use Rattle.layout.proofs.Laws.{bounded}
+use Rattle.layout.proofs.recovery_at.Statement.{statement}
+use Rattle.layout.proofs.recovery_at.Tie as tie
+
+current-at-requires : tie.Need-current-at-requires
+current-at-requires c κs = search needs
+
+mul-result : tie.Need-mul-result
+mul-result c = omega (arith, bounded (c .before .before .pre))
+
+add-result : tie.Need-add-result
+unfolding base
+add-result c = omega (arith, bounded (c .before .before .pre))
+
+returns : tie.Need-returns
+unfolding base
+returns c = omega arith
+
+pub recovery-at-spec : {M : Type 1} → statement M
+recovery-at-spec = tie.close (tie.spec current-at-requires mul-result add-result returns)
