@@ -1,0 +1,169 @@
+-- One block and one context: the stores of the leaves are the puts of the definitions.
+use Prim.Native.Nat.{ℕ, zero, suc, _+_, _*_, _/_, _%_, _≤_, _<_}
+use native.Mathlib.Nat.{mul-le-mul-right, suc-mul}
+use mathlib.Core.Path.{_≡_, refl, sym, _∙_, ap, subst}
+use mathlib.Core.Bool.{Bool, true, false, not, cond}
+use mathlib.Core.List.{List, [], _∷_, _++_, map, map-append}
+use mathlib.Core.Logic.{_⊎_, inl, inr, _≢_}
+use native.Mathlib.Numerals.{add-one}
+use native.Mathlib.Omega.{arith}
+use lib.ListN.{length, getD, drop}
+use Rattle.protocol.specs.Lists.{for}
+use Rattle.protocol.specs.Boards.{has}
+use Rattle.protocol.specs.Image.{Area, Decision, Group, Tags, Current, Recovery, Tentative, Checkpoint, Put, put, raw, rank, base, size, view, total}
+use Rattle.protocol.specs.Calls.{tagged-in, copying, block-copied, context-saved}
+use Rattle.protocol.specs.declared.Shape.{Shape}
+use Rattle.protocol.proofs.Bridge.{view-at}
+use Rattle.protocol.proofs.Groups.{has-small}
+use Rattle.protocol.proofs.Copies.{Bank, current, recovery}
+use Rattle.store.specs.Budget.{Makes, one, WellBudget}
+use Rattle.store.specs.Runs.{copy-stores, shifted}
+use Rattle.store.specs.declared.Budget.{Budget}
+use Rattle.store.proofs.Laws.{makes-none, makes-then, makes-length, makes-well}
+use Rattle.store.proofs.Areas.{copying-lent}
+use Rattle.blocks.specs.Puts.{Puts}
+use Rattle.blocks.specs.Banks.{bank, block-puts}
+use Rattle.blocks.proofs.Rounds.{block-round, context-round}
+
+-- a tag as the code tests it
+pub tag-none : (g t : ℕ) → t ≡ 0 → tagged-in g t ≡ false
+unfolding tagged-in
+tag-none g t e = ap (tagged-in g) e
+
+pub tag-past : (g t : ℕ) → g < 65536 → 16 < t → tagged-in g t ≡ false
+unfolding tagged-in
+tag-past g zero h l = refl
+tag-past g (suc j) h l = has-small 16 g j h (omega arith)
+
+pub tag-board : (g t : ℕ) (r : Bool) → 0 < t → ((j : ℕ) → suc j ≡ t → r ≡ has g j) → r ≡ tagged-in g t
+unfolding tagged-in
+tag-board g zero r l h = absurd (omega arith)
+tag-board g (suc j) r l h = h j refl
+
+-- a block's tag in the image
+pub tag-read : (s : Shape) (x : List ℕ) (b : ℕ) → b < s .blocks → view s x Tags b ≡ getD x (12 + b) 0
+unfolding base size
+tag-read s x b l = view-at s x Tags b l
+
+-- where a block stands in its bank, and how far the banks are apart
+rows-fit : (n b i : ℕ) → i < b → i * n + n ≤ b * n
+rows-fit n b i l = omega (arith, suc-mul i n, mul-le-mul-right n l)
+
+pub block-fits : (s : Shape) (b : ℕ) → b < s .blocks → b * s .size + s .size ≤ s .blocks * s .size
+block-fits s b l = rows-fit (s .size) (s .blocks) b l
+
+pub context-fits : (s : Shape) (i : ℕ) → i < s .boards → i * s .context + s .context ≤ s .boards * s .context
+context-fits s i l = rows-fit (s .context) (s .boards) i l
+
+bank-at : (s : Shape) (save : Bool) (i : ℕ) → base s Current + i + cond save 0 (s .blocks * s .size) ≡ base s (bank save) + i
+unfolding bank base
+bank-at s true i = omega arith
+bank-at s false i = omega arith
+
+bank-size : (s : Shape) (save : Bool) → size s (bank save) ≡ s .blocks * s .size
+unfolding bank size
+bank-size s true = refl
+bank-size s false = refl
+
+pub banks-apart : (n c : ℕ) (save : Bool) → n ≤ c → (cond save 0 c + n ≤ cond (not save) 0 c) ⊎ (cond (not save) 0 c + n ≤ cond save 0 c)
+banks-apart n c true l = inl (omega arith)
+banks-apart n c false l = inr (omega arith)
+
+module _ {s : Shape} {x : List ℕ} (g : ℕ) (save : Bool) (b : ℕ) (l : b < s .blocks) {k : Budget} where
+  pub block-left : tagged-in g (getD x (12 + b) 0) ≡ false → Puts s (block-puts s (view s x) g save b) k x k x
+  unfolding block-copied
+  block-left e = record { makes = rw (tag-read s x b l, e) (makes-none k x) }
+
+  -- the copier is handed the part of the image from `at` on
+  pub block-done : {r r′ : Budget} {y z : List ℕ} {at from to : ℕ} → tagged-in g (getD x (12 + b) 0) ≡ true
+      → at ≡ base s Current + b * s .size → from ≡ cond save 0 (s .blocks * s .size) → to ≡ cond (not save) 0 (s .blocks * s .size)
+      → Makes (shifted at (copy-stores (drop at x) from to (s .size))) k x r y
+      → Makes (one (12 + b) 0 ∷ []) r y r′ z → Puts s (block-puts s (view s x) g save b) k x r′ z
+  unfolding block-copied raw base
+  block-done {r} {r′} {y} {z} {at} {from} {to} e p q t m n =
+      let i = b * s .size in
+      let fits : i + s .size ≤ size s (bank save) = rw (bank-size s save) (block-fits s b l) in
+      let same = copying-lent s x (bank save) (bank (not save)) i (s .size) at from to fits (rw (p, q) (bank-at s save i)) (rw (p, t) (bank-at s (not save) i)) in
+      record {
+        makes =
+            rw (tag-read s x b l, e)
+            (subst (λ ss. Makes ss k x r′ z) (sym (map-append (raw s) (copying (view s x) (bank save) (bank (not save)) i (s .size)) (put Tags b 0 ∷ [])))
+            (makes-then (subst (λ ss. Makes ss k x r y) (sym same) m) n));
+      }
+
+module _ {s : Shape} {x : List ℕ} (g i : ℕ) {k : Budget} where
+  pub context-left : has g i ≡ false → Puts s (context-saved s (view s x) g i) k x k x
+  unfolding context-saved
+  context-left e = record { makes = rw e (makes-none k x) }
+
+  pub context-done : {r : Budget} {y : List ℕ} {at all : ℕ} → i < s .boards → has g i ≡ true
+      → at ≡ base s Tentative + i * s .context → all ≡ s .boards * s .context
+      → Makes (shifted at (copy-stores (drop at x) 0 all (s .context))) k x r y → Puts s (context-saved s (view s x) g i) k x r y
+  unfolding context-saved base size
+  context-done {r} {y} {at} {all} l e p q m =
+      let i₀ = i * s .context in
+      let same = copying-lent s x Tentative Checkpoint i₀ (s .context) at 0 all (context-fits s i l) (omega arith) (omega arith) in
+      record { makes = rw e (subst (λ ss. Makes ss k x r y) (sym same) m) }
+
+-- ---- bytes 9, 10 and 11
+
+pub announced : (s : Shape) (g : ℕ) {k r r′ r″ : Budget} {x y z w : List ℕ} → Makes (one 10 (g % 256) ∷ []) k x r y
+    → Makes (one 11 (g / 256) ∷ []) r y r′ z → Makes (one 9 1 ∷ []) r′ z r″ w
+    → Puts s (put Group 0 (g % 256) ∷ put Group 1 (g / 256) ∷ put Decision 0 1 ∷ []) k x r″ w
+unfolding raw base
+announced s g m n t = record { makes = makes-then m (makes-then n t) }
+
+pub cleared : (s : Shape) {k r : Budget} {x y : List ℕ} → Makes (one 9 0 ∷ []) k x r y → Puts s (put Decision 0 0 ∷ []) k x r y
+unfolding raw base
+cleared s m = record { makes = m }
+
+-- ---- the loops
+
+offset-most : (save : Bool) (c : ℕ) → cond save 0 c ≤ c
+offset-most true c = omega arith
+offset-most false c = omega arith
+
+-- the copier's two ranges lie in the image and apart
+pub ranges-fit : (s : Shape) (save : Bool) (b : ℕ) → b < s .blocks → (n at from to : ℕ) → n ≡ total s
+    → at ≡ base s Current + b * s .size → from ≡ cond save 0 (s .blocks * s .size) → to ≡ cond (not save) 0 (s .blocks * s .size)
+    → ((at + from + s .size ≤ n) × (at + to + s .size ≤ n)) × ((from + s .size ≤ to) ⊎ (to + s .size ≤ from))
+unfolding base total
+ranges-fit s save b l n at from to e p q t =
+    let c = s .blocks * s .size in
+    let f = block-fits s b l in
+    let one = offset-most save c in
+    let two = offset-most (not save) c in
+    ((omega arith, omega arith), rw (q, t) (banks-apart (s .size) c save (omega arith)))
+
+to-bank : (save : Bool) → Bank (bank (not save))
+unfolding bank
+to-bank true = recovery
+to-bank false = current
+
+from-apart : (save : Bool) → (rank (bank save) ≢ rank (bank (not save))) × (rank (bank save) ≢ rank Tags)
+unfolding bank rank
+from-apart true = (omega arith, omega arith)
+from-apart false = (omega arith, omega arith)
+
+module _ {s : Shape} {x : List ℕ} (long : length x ≡ total s) {k r : Budget} {y : List ℕ} (well : WellBudget k) where
+  pub blocks-again : (g : ℕ) (save : Bool) (b : ℕ) {r′ : Budget} {z : List ℕ} → b < s .blocks
+      → Puts s (for b (block-puts s (view s x) g save)) k x r y → Puts s (block-puts s (view s y) g save b) r y r′ z
+      → Puts s (for (b + 1) (block-puts s (view s x) g save)) k x r′ z
+  blocks-again g save b l p q =
+      rw add-one
+      (block-round long well (bank save) (bank (not save)) (tagged-in g) (to-bank save) (from-apart save .0) (from-apart save .1) b l p q)
+
+  pub contexts-again : (g i : ℕ) {r′ : Budget} {z : List ℕ} → i < s .boards
+      → Puts s (for i (context-saved s (view s x) g)) k x r y → Puts s (context-saved s (view s y) g i) r y r′ z
+      → Puts s (for (i + 1) (context-saved s (view s x) g)) k x r′ z
+  contexts-again g i l p q = rw add-one (context-round long well g i l p q)
+
+-- what the next function may ask of the image and the budget that one leaves
+pub puts-length : {s : Shape} {ps : List Put} {k r : Budget} {x y : List ℕ} → Puts s ps k x r y → length y ≡ length x
+puts-length p = makes-length (p .makes)
+
+pub puts-well : {s : Shape} {ps : List Put} {k r : Budget} {x y : List ℕ} → Puts s ps k x r y → WellBudget k → WellBudget r
+puts-well p w = makes-well (p .makes) w
+
+pub puts-none : (s : Shape) (k : Budget) (x : List ℕ) → Puts s [] k x k x
+puts-none s k x = record { makes = makes-none k x }

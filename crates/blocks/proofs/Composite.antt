@@ -1,0 +1,92 @@
+-- The parts of a commit and of a power-up, one after the other, are the plans of the definitions.
+use Prim.Native.Nat.{ℕ, zero, suc, _+_, _*_, _/_, _%_, _≤_, _<_}
+use mathlib.Core.Path.{_≡_, refl, sym, _∙_, ap, subst, fun-ext}
+use mathlib.Core.Bool.{Bool, true, false, cond}
+use mathlib.Core.List.{List, [], _∷_, _++_}
+use native.Mathlib.Omega.{arith}
+use native.Mathlib.Nat.{le-refl}
+use lib.Dec.{eqb, ltb}
+use lib.ListN.{length}
+use borrow.Author.Tests.{le-ltb}
+use Rattle.protocol.specs.Lists.{for, span}
+use Rattle.protocol.specs.Boards.{has}
+use Rattle.protocol.specs.Image.{Area, Decision, Group, Tags, Current, Recovery, Tentative, Checkpoint, Memory, Put, put, rank, size, change, after, view, total}
+use Rattle.protocol.specs.Calls.{tagged-in, tagged, stored-group, placing, copying, block-copied, blocks-copied, context-saved, completing, deciding, completed-first, recovering}
+use Rattle.protocol.specs.declared.Shape.{Shape}
+use Rattle.protocol.proofs.Basics.{All, none, also, all-cond}
+use Rattle.protocol.proofs.Memory.{untouched, else-area}
+use Rattle.protocol.proofs.Bridge.{Valid}
+use Rattle.protocol.proofs.Copies.{all-blocks, recovery}
+use Rattle.protocol.proofs.Plans.{completing-valid}
+use Rattle.store.specs.Budget.{WellBudget}
+use Rattle.store.specs.declared.Budget.{Budget}
+use Rattle.store.proofs.Laws.{makes-well, makes-length}
+use Rattle.blocks.specs.Puts.{Puts}
+use Rattle.blocks.proofs.Chains.{then-puts, then-reads}
+use Rattle.blocks.proofs.Rounds.{blocks-valid}
+
+-- the contexts are read off the image after the blocks, which is the same as before them
+contexts-later : (s : Shape) (m : Memory) (chosen : ℕ → Bool) (g : ℕ)
+    → for (s .boards) (context-saved s (after (blocks-copied s m Current Recovery chosen) m) g) ≡ for (s .boards) (context-saved s m g)
+unfolding context-saved copying rank
+contexts-later s m chosen g =
+    ap (λ (f : ℕ → ℕ). for (s .boards) (λ i. cond (has g i) (placing Checkpoint (i * s .context) (span f (i * s .context) (s .context))) []))
+    (fun-ext (λ j. untouched (all-blocks s m Current Recovery chosen (λ b x v l e d. else-area (λ q. omega arith)) (λ b l e. else-area (λ q. omega arith))) m))
+
+pub first-valid : (s : Shape) (m : Memory) → All (Valid s) (completed-first s m)
+unfolding completed-first
+first-valid s m = all-cond (eqb (m Decision 0) 1) (λ e. completing-valid s m (stored-group m)) (λ e. none)
+
+-- bytes 10, 11 and 9, and what follows them
+abbrev group-puts : ℕ → List Put
+group-puts g = put Group 0 (g % 256) ∷ put Group 1 (g / 256) ∷ put Decision 0 1 ∷ []
+
+group-valid : (s : Shape) (g : ℕ) → All (Valid s) (group-puts g)
+unfolding rank size
+group-valid s g = also (two 0 (g % 256) (omega arith)) (also (two 1 (g / 256) (omega arith)) (also deciding-byte none))
+  where
+    two : (i v : ℕ) → i < 2 → Valid s (put Group i v)
+    two i v l = record { body = omega arith; within = l }
+
+    deciding-byte : Valid s (put Decision 0 1)
+    deciding-byte = record { body = omega arith; within = omega arith }
+
+deciding-later : (s : Shape) (m : Memory) (g : ℕ) → group-puts g ++ completing s (after (group-puts g) m) g ≡ deciding s m g
+unfolding deciding completing blocks-copied block-copied context-saved copying after change rank
+deciding-later s m g = refl
+
+module _ {s : Shape} {x : List ℕ} (long : length x ≡ total s) {b : Budget} (well : WellBudget b) where
+  -- the completion of a commit
+  pub completes : (g : ℕ) {r r′ r″ : Budget} {y z w : List ℕ}
+      → Puts s (blocks-copied s (view s x) Current Recovery (tagged-in g)) b x r y
+      → Puts s (for (s .boards) (context-saved s (view s y) g)) r y r′ z
+      → Puts s (put Decision 0 0 ∷ []) r′ z r″ w
+      → Puts s (completing s (view s x) g) b x r″ w
+  unfolding completing blocks-copied
+  completes g {r″ = r″} {w = w} p q t =
+      let m = view s x in
+      let blocks = blocks-copied s m Current Recovery (tagged-in g) in
+      subst (λ cs. Puts s (blocks ++ (cs ++ put Decision 0 0 ∷ [])) b x r″ w) (contexts-later s m (tagged-in g) g)
+      (then-reads blocks (λ n. for (s .boards) (context-saved s n g) ++ put Decision 0 0 ∷ []) long
+      (blocks-valid s m Current Recovery (tagged-in g) recovery (s .blocks) (le-refl (s .blocks))) well p
+      (then-puts (for (s .boards) (context-saved s (view s _) g)) (put Decision 0 0 ∷ []) q t))
+
+  -- a power-up: the completion of a decided commit, if there is one, then the rollback
+  pub recovers : {r r′ : Budget} {y z : List ℕ} → Puts s (completed-first s (view s x)) b x r y
+      → Puts s (blocks-copied s (view s y) Recovery Current tagged) r y r′ z
+      → Puts s (recovering s (view s x)) b x r′ z
+  unfolding recovering
+  recovers p q =
+      then-reads (completed-first s (view s x)) (λ m. blocks-copied s m Recovery Current tagged) long
+      (first-valid s (view s x)) well p q
+
+  -- a commit: the context, bytes 10, 11 and 9, the completion
+  pub decides : (given : List Put) (g : ℕ) {r r′ r″ : Budget} {y z w : List ℕ} → All (Valid s) given
+      → Puts s given b x r y
+      → Puts s (put Group 0 (g % 256) ∷ put Group 1 (g / 256) ∷ put Decision 0 1 ∷ []) r y r′ z
+      → Puts s (completing s (view s z) g) r′ z r″ w
+      → Puts s (given ++ deciding s (after given (view s x)) g) b x r″ w
+  decides given g {r} {r″ = r″} {y = y} {w = w} valid p q t =
+      then-reads given (λ m. deciding s m g) long valid well p
+      (subst (λ ps. Puts s ps r y r″ w) (deciding-later s (view s y) g)
+      (then-reads (group-puts g) (λ m. completing s m g) (makes-length (p .makes) ∙ long) (group-valid s g) (makes-well (p .makes) well) q t))

@@ -1,0 +1,5 @@
+pub mod Laws
+pub mod Chains
+pub mod Rounds
+pub mod Composite
+pub mod Blocks

@@ -1,0 +1,125 @@
+// The loops that a commit, a fault and a power-up are made of. Every store is made by `store`.
+use layout::current_at;
+use layout::tentative_at;
+use protocol::Shape;
+use protocol::sets::has;
+use store::Budget;
+use store::copy_at;
+use store::store;
+ghost use mathlib.Core.Path.{_≡_};
+ghost use mathlib.Core.Bool.{true, false, cond};
+ghost use mathlib.Core.List.{[], _∷_};
+ghost use Prim.Native.Nat.{_+_, _<_, _%_, _/_};
+ghost use lib.ListN.{length};
+ghost use Rattle.protocol.specs.Lists.{for};
+ghost use Rattle.protocol.specs.Image.{allowed, total, view, put, Decision, Group};
+ghost use Rattle.protocol.specs.Calls.{tagged-in, context-saved, completing};
+ghost use Rattle.store.specs.Budget.{WellBudget};
+ghost use Rattle.blocks.specs.Puts.{Puts};
+ghost use Rattle.blocks.specs.Banks.{block-puts, blocks-puts};
+
+// Whether a tag names a member of g.
+pub fn tagged_in(g: u16, tag: u8) -> bool
+    ensures { λ r. ⌜ r ≡ tagged-in g tag ⌝ }
+{
+    if tag == 0 {
+        return false;
+    }
+    if tag > 16 {
+        return false;
+    }
+    has(g, tag - 1)
+}
+
+// 0 for the bank at hand, the distance for the other one.
+fn offset(here: bool, distance: usize) -> usize
+    ensures { λ r. ⌜ r ≡ cond here 0 distance ⌝ }
+{
+    if here {
+        return 0;
+    }
+    distance
+}
+
+// One block, if its tag names a member of g: its bytes from one bank to the other, then its tag 0.
+// The part of the image from the block on is handed to the copier.
+fn copy_block(image: &mut [u8], s: Shape, g: u16, save: bool, b: usize, k: Budget) -> Budget
+    requires { ⌜ (allowed s ≡ true) × (length (now image) ≡ total s) × (b < s .blocks) ⌝ }
+    ensures { λ r. ⌜ Puts s (block-puts s (view s (now (image .entry))) g save b) k
+        (now (image .entry)) r (now (image .exit)) ⌝ }
+{
+    let tag = image[12 + b];
+    if !tagged_in(g, tag) {
+        return k;
+    }
+    let size = s.size;
+    let cells = s.blocks * size;
+    let at = current_at(s) + b * size;
+    let from = offset(save, cells);
+    let to = offset(!save, cells);
+    let copied = copy_at(image, at, from, to, size, k);
+    store(image, 12 + b, 0, copied)
+}
+
+// All blocks, ascending.
+pub fn copy_blocks(image: &mut [u8], s: Shape, g: u16, save: bool, k: Budget) -> Budget
+    requires { ⌜ (allowed s ≡ true) × (length (now image) ≡ total s) × WellBudget k ⌝ }
+    ensures { λ r. ⌜ Puts s (blocks-puts s (view s (now (image .entry))) g save) k
+        (now (image .entry)) r (now (image .exit)) ⌝ }
+{
+    let mut left = k;
+    for b in 0..s.blocks {
+        left = copy_block(image, s, g, save, b, left);
+    }
+    left
+}
+
+// A member's tentative context to recovery.
+fn copy_context(image: &mut [u8], s: Shape, g: u16, i: usize, k: Budget) -> Budget
+    requires { ⌜ (allowed s ≡ true) × (length (now image) ≡ total s) × (i < s .boards) ⌝ }
+    ensures { λ r. ⌜ Puts s (context-saved s (view s (now (image .entry))) g i) k
+        (now (image .entry)) r (now (image .exit)) ⌝ }
+{
+    if !has(g, i as u8) {
+        return k;
+    }
+    let size = s.context;
+    let all = s.boards * size;
+    let at = tentative_at(s) + i * size;
+    copy_at(image, at, 0, all, size, k)
+}
+
+// Every member's, boards ascending.
+pub fn copy_contexts(image: &mut [u8], s: Shape, g: u16, k: Budget) -> Budget
+    requires { ⌜ (allowed s ≡ true) × (length (now image) ≡ total s) × WellBudget k ⌝ }
+    ensures { λ r. ⌜ Puts s (for (s .boards) (context-saved s (view s (now (image .entry))) g)) k
+        (now (image .entry)) r (now (image .exit)) ⌝ }
+{
+    let mut left = k;
+    for i in 0..s.boards {
+        left = copy_context(image, s, g, i, left);
+    }
+    left
+}
+
+// All that follows the deciding store: blocks, contexts, byte 9 set to 0.
+pub fn complete(image: &mut [u8], s: Shape, g: u16, k: Budget) -> Budget
+    requires { ⌜ (allowed s ≡ true) × (length (now image) ≡ total s) × WellBudget k ⌝ }
+    ensures { λ r. ⌜ Puts s (completing s (view s (now (image .entry))) g) k
+        (now (image .entry)) r (now (image .exit)) ⌝ }
+{
+    let saved = copy_blocks(image, s, g, true, k);
+    let kept = copy_contexts(image, s, g, saved);
+    store(image, 9, 0, kept)
+}
+
+// Bytes 10 and 11, then byte 9 set to 1, which decides.
+pub fn announce(image: &mut [u8], s: Shape, g: u16, k: Budget) -> Budget
+    requires { ⌜ (allowed s ≡ true) × (length (now image) ≡ total s) ⌝ }
+    ensures { λ r. ⌜ Puts s (put Group 0 (g % 256) ∷ put Group 1 (g / 256) ∷ put Decision 0 1 ∷ []) k
+        (now (image .entry)) r (now (image .exit)) ⌝ }
+{
+    let low = store(image, 10, (g % 256) as u8, k);
+    let high = store(image, 11, (g / 256) as u8, low);
+    store(image, 9, 1, high)
+}
