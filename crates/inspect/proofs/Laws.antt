@@ -1,0 +1,138 @@
+-- What Context and Same answer, by the tests that the code makes.
+use Prim.Native.Nat.{ℕ, _+_, _-_, _*_, _≤_, _<_}
+use mathlib.Core.Path.{_≡_, refl, sym, _∙_, ap₂}
+use mathlib.Core.Bool.{Bool, true, false, not}
+use mathlib.Core.List.{List, []}
+use mathlib.Core.Logic.{_≢_}
+use lib.Dec.{eqb}
+use lib.ListN.{length, take, drop}
+use native.Mathlib.Omega.{arith}
+use native.Mathlib.Nat.{add-sub-cancel-left, suc-mul, mul-le-mul-right}
+use borrow.Author.Tests.{eq-eqb, ne-eqb, eqb-true, le-leb, lt-leb}
+use Rattle.protocol.specs.Image.{Area, Recovery, Checkpoint, cells, contexts, base, size, total, byte, shape-of, in-order, view}
+use Rattle.protocol.specs.Calls.{first, context-part, context-status, same-shape, same-area, compare}
+use Rattle.protocol.specs.declared.Shape.{Shape}
+use Rattle.protocol.proofs.Basics.{and-true, false-and, test-ext, every-at, every-all, not-true, not-false}
+use Rattle.protocol.proofs.Bridge.{view-at, ends-within}
+use Rattle.layout.proofs.Laws.{Geometry}
+use Rattle.inspect.specs.Areas.{same-bytes, same-areas}
+
+-- a test's answer r, as an `if` on its negation left or took it
+pub holds : {r t : Bool} → r ≡ t → not r ≡ false → t ≡ true
+holds e h = sym e ∙ not-false _ h
+
+pub fails : {r t : Bool} → r ≡ t → not r ≡ true → t ≡ false
+fails e h = sym e ∙ not-true _ h
+
+-- ---- Context
+
+module _ (image : List ℕ) (i : ℕ) where
+  pub context-disordered : in-order 0 image ≡ false → ([] ≡ context-part image i) × (11 ≡ context-status image i)
+  unfolding context-part context-status first
+  context-disordered h = rw h (refl, refl)
+
+  pub context-beyond : {s : Shape} → s ≡ shape-of image → in-order 0 image ≡ true → s .boards ≤ i →
+      ([] ≡ context-part image i) × (1 ≡ context-status image i)
+  unfolding context-part context-status first
+  context-beyond e h l = rw (h, ← e, le-leb _ _ l) (refl, refl)
+
+  pub context-within : {s : Shape} {at : ℕ} → s ≡ shape-of image → in-order 0 image ≡ true →
+      at ≡ base s Checkpoint → i < s .boards →
+      (take (at + i * s .context + s .context - (at + i * s .context)) (drop (at + i * s .context) image)
+      ≡ context-part image i) × (0 ≡ context-status image i)
+  unfolding context-part context-status first
+  context-within e h b l = rw (h, ← e, lt-leb _ _ l, ← b, add-sub-cancel-left) (refl, refl)
+
+-- a board's context ends within the image
+pub context-ends : {s : Shape} {image : List ℕ} {at : ℕ} (i : ℕ) → Geometry 0 s image → at ≡ base s Checkpoint →
+    i < s .boards → (at + i * s .context + s .context ≤ length image) × (length image < 65536)
+unfolding size
+context-ends {s} i g e l =
+    let k = s .context in
+    omega (arith, ends-within s Checkpoint, suc-mul i k, mul-le-mul-right k l)
+
+-- ---- Same
+
+module _ (s t : Shape) where
+  -- shapes of which one number differs are not the same
+  pub other-boards : s .boards ≢ t .boards → false ≡ same-shape s t
+  unfolding same-shape
+  other-boards h = rw (ne-eqb _ _ h)
+
+  pub other-size : s .boards ≡ t .boards → s .size ≢ t .size → false ≡ same-shape s t
+  unfolding same-shape
+  other-size a h = rw (eq-eqb _ _ a, ne-eqb _ _ h)
+
+  pub other-blocks : s .boards ≡ t .boards → s .size ≡ t .size → s .blocks ≢ t .blocks → false ≡ same-shape s t
+  unfolding same-shape
+  other-blocks a b h = rw (eq-eqb _ _ a, eq-eqb _ _ b, ne-eqb _ _ h)
+
+  pub by-context : s .boards ≡ t .boards → s .size ≡ t .size → s .blocks ≡ t .blocks →
+      eqb (s .context) (t .context) ≡ same-shape s t
+  unfolding same-shape
+  by-context a b d = rw (eq-eqb _ _ a, eq-eqb _ _ b, eq-eqb _ _ d)
+
+  -- the same shape is equal
+  pub same-equal : same-shape s t ≡ true → s ≡ t
+  unfolding same-shape
+  same-equal h =
+      let a = and-true (eqb (s .boards) (t .boards)) _ h in
+      let b = and-true (eqb (s .size) (t .size)) _ (a .1) in
+      let d = and-true (eqb (s .blocks) (t .blocks)) _ (b .1) in
+      built (eqb-true _ _ (a .0)) (eqb-true _ _ (b .0)) (eqb-true _ _ (d .0)) (eqb-true _ _ (d .1))
+    where
+      built : {p q b c p' q' b' c' : ℕ} → p ≡ p' → q ≡ q' → b ≡ b' → c ≡ c' →
+          _≡_ {A = Shape} (record { boards = p; size = q; blocks = b; context = c })
+          (record { boards = p'; size = q'; blocks = b'; context = c' })
+      built e f g h = cc
+
+module _ (s : Shape) (image other : List ℕ) where
+  -- an area's bytes at its offset, by the views
+  area-bytes : (a : Area) {at : ℕ} {r : Bool} → at ≡ base s a → r ≡ same-bytes image other at (size s a) →
+      r ≡ same-area (view s image) (view s other) a (size s a)
+  unfolding same-area
+  area-bytes a {r} p e = rw p at e ∙ test-ext _ _
+      (λ h. every-all _ _ (λ i l. both i l ∙ every-at _ _ h i l))
+      (λ h. every-all _ _ (λ i l. sym (both i l) ∙ every-at _ _ h i l))
+    where
+      both : (i : ℕ) → i < size s a → eqb (view s image a i) (view s other a i)
+          ≡ eqb (byte image (base s a + i)) (byte other (base s a + i))
+      both i l = ap₂ eqb (view-at s image a i l) (view-at s other a i l)
+
+  -- where the banks differ the areas do; where they are the same the contexts tell
+  pub bank-other : {at : ℕ} {r : Bool} → at ≡ base s Recovery → r ≡ same-bytes image other at (cells s) →
+      not r ≡ true → false ≡ same-areas s image other
+  unfolding same-areas size
+  bank-other p e h = sym (false-and _ (fails (area-bytes Recovery p e) h))
+
+  pub bank-same : {at from : ℕ} {r b : Bool} → at ≡ base s Recovery → r ≡ same-bytes image other at (cells s) →
+      not r ≡ false → from ≡ base s Checkpoint → b ≡ same-bytes image other from (contexts s) →
+      b ≡ same-areas s image other
+  unfolding same-areas size
+  bank-same p e h q f = rw (holds (area-bytes Recovery p e) h) (area-bytes Checkpoint q f)
+
+-- an area ends within an image of its shape
+pub area-ends : (s : Shape) (a : Area) {at n : ℕ} → at ≡ base s a → n ≡ total s → at + size s a ≤ n
+area-ends s a p e = omega (arith, ends-within s a)
+
+module _ (image other : List ℕ) where
+  pub first-disordered : in-order 0 image ≡ false → record { status = 11; same = false } ≡ compare image other
+  unfolding compare first
+  first-disordered h = rw h
+
+  pub second-disordered : in-order 0 image ≡ true → in-order 0 other ≡ false →
+      record { status = 11; same = false } ≡ compare image other
+  unfolding compare first
+  second-disordered h k = rw (h, k)
+
+  pub other-shape : {s t : Shape} → s ≡ shape-of image → t ≡ shape-of other →
+      in-order 0 image ≡ true → in-order 0 other ≡ true → same-shape s t ≡ false →
+      record { status = 0; same = false } ≡ compare image other
+  unfolding compare first
+  other-shape e f h k d = rw (h, k, ← e, ← f, d)
+
+  pub one-shape : {s t : Shape} {r : Bool} → s ≡ shape-of image → t ≡ shape-of other →
+      in-order 0 image ≡ true → in-order 0 other ≡ true → same-shape s t ≡ true → r ≡ same-areas s image other →
+      record { status = 0; same = r } ≡ compare image other
+  unfolding compare first same-areas
+  one-shape {s} {t} e f h k d a = rw (a, h, k, ← e, ← f, d, ← same-equal s t d)

@@ -1,0 +1,85 @@
+-- The stores of a format, round by round and all together; none of them decides; how the call ends.
+use Prim.Native.Nat.{ℕ, suc, _+_, _-_, _≤_}
+use mathlib.Core.Path.{_≡_, refl, sym, _∙_, ap}
+use mathlib.Core.Bool.{true, false, not}
+use mathlib.Core.List.{List, [], _∷_}
+use mathlib.Core.Logic.{_≢_, ⊎-elim}
+use lib.Dec.{eqb}
+use lib.ListN.{length, getD, take}
+use native.Mathlib.Omega.{arith}
+use borrow.Author.Tests.{eq-eqb, ne-eqb, eqb-true}
+use Rattle.protocol.specs.Lists.{anyOf}
+use Rattle.protocol.specs.Image.{allowed, total, mark, header}
+use Rattle.protocol.specs.Volatile.{fresh}
+use Rattle.protocol.specs.Calls.{first, refused, decides, format-refusals, formatting, format}
+use Rattle.protocol.specs.declared.Shape.{Shape}
+use Rattle.protocol.specs.declared.Record.{Record}
+use Rattle.protocol.specs.declared.Reply.{Reply}
+use Rattle.protocol.proofs.Basics.{decide, none, also, all-append, all-take, anyOf-false}
+use Rattle.store.specs.Budget.{Makes, one, start}
+use Rattle.store.specs.declared.Budget.{Budget}
+use Rattle.store.proofs.Laws.{makes-then}
+use Rattle.store.proofs.Runs.{span-more, all-span}
+use Rattle.answers.specs.Promise.{Formatted, reply-of, refusal-of}
+use Rattle.answers.proofs.Ends.{made-outcome, first-held, first-passed}
+use Rattle.setup.specs.Stores.{header-store, header-stores}
+
+-- ---- the stores
+
+-- one byte more
+pub filled-more : (s : Shape) (i : ℕ) {v : ℕ} {b r r′ : Budget} {x y z : List ℕ} → 1 ≤ i → v ≡ getD (header s) i 0 →
+    Makes (header-stores s (i - 1)) b x r y → Makes (one i v ∷ []) r y r′ z →
+    Makes (header-stores s (i + 1 - 1)) b x r′ z
+filled-more s i l e m n =
+    let next : i + 1 - 1 ≡ suc (i - 1) = omega arith in
+    let here : 1 + (i - 1) ≡ i = omega arith in
+    rw (next, span-more (header-store s) 1 (i - 1), here) (makes-then m (rw e at n))
+
+-- byte 0, the others, byte 0 again
+pub laid-out : (s : Shape) {b c d r : Budget} {w x y z : List ℕ} →
+    Makes (one 0 0 ∷ []) b w c x → Makes (header-stores s (total s - 1)) c x d y →
+    Makes (one 0 (getD mark 0 0) ∷ []) d y r z → Makes (formatting s) b w r z
+unfolding formatting
+laid-out s m n o = makes-then m (makes-then n o)
+
+-- ---- none decides: byte 9 is past the header and stored 0
+
+quiet : (s : Shape) (i : ℕ) → decides (header-store s i) ≡ false
+unfolding decides header mark
+quiet s i = ⊎-elim (λ h. rw (eqb-true i 9 h)) (λ h. rw h) (decide (eqb i 9))
+
+pub undecided : (s : Shape) (k : ℕ) → anyOf decides (take k (formatting s)) ≡ false
+unfolding formatting decides
+undecided s k =
+    let middle = all-span (header-store s) {P = λ x. decides x ≡ false} 1 (total s - 1) (λ i _ _. quiet s i) in
+    anyOf-false decides (λ x h. h) (all-take k (also refl (all-append middle (also refl none))))
+
+-- ---- the call
+
+module _ {s : Shape} {image : List ℕ} (state : Record) (k : ℕ) where
+  -- refused with the number of the first test that holds
+  turned : (n : ℕ) {r : Reply} → first (format-refusals s image) ≡ n → n ≢ 0 → r ≡ refusal-of n state →
+      Formatted s image state k r image
+  unfolding format refused refusal-of
+  turned n f h e = record { reply = e ∙ rw (f, ne-eqb n 0 h); image = rw (f, ne-eqb n 0 h) }
+
+  -- 4 for a shape that is not allowed, then 5 for another length than its
+  pub turned-shape : {r : Reply} → allowed s ≡ false → r ≡ refusal-of 4 state → Formatted s image state k r image
+  unfolding format-refusals
+  turned-shape h = turned 4 (first-held 4 _ (ap not h)) (omega arith)
+
+  pub turned-length : {r : Reply} → allowed s ≡ true → length image ≢ total s → r ≡ refusal-of 5 state →
+      Formatted s image state k r image
+  unfolding format-refusals
+  turned-length h l =
+      turned 5 (first-passed 4 _ (ap not h) ∙ first-held 5 [] (ap not (ne-eqb _ _ l))) (omega arith)
+
+  -- done or cut, by what is left of the budget
+  pub ended : {left : Budget} {after : List ℕ} {next : Record} {r : Reply} → allowed s ≡ true → length image ≡ total s →
+      next ≡ fresh → Makes (formatting s) (start k) image left after → r ≡ reply-of k left false 0 next →
+      Formatted s image state k r after
+  unfolding format format-refusals first
+  ended {left} h l f m e =
+      let passed : first (format-refusals s image) ≡ 0 = rw (h, eq-eqb _ _ l) in
+      let both = made-outcome 0 fresh [] false m (sym (undecided s k)) in
+      record { reply = e ∙ ap (reply-of k left false 0) f ∙ rw passed (both .0); image = rw passed (both .1) }
