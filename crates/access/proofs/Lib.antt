@@ -1,0 +1,5 @@
+pub mod Laws
+pub mod Touched
+pub mod Tests
+pub mod Written
+pub mod Answers

@@ -1,0 +1,238 @@
+// Reads and writes.
+use answers::finish;
+use answers::refusal;
+use blocks::tagged_in;
+use entry::bad_range;
+use entry::common_refusal;
+use layout::current_at;
+use layout::shape_of;
+use protocol::Record;
+use protocol::Reply;
+use protocol::Shape;
+use protocol::sets::has;
+use store::Budget;
+use store::put_all;
+use store::store;
+ghost use mathlib.Core.Path.{_≡_};
+ghost use mathlib.Core.Bool.{true};
+ghost use mathlib.Core.List.{[], _∷_, _++_};
+ghost use Prim.Native.Nat.{ℕ, _+_, _*_, _/_, _≤_, _<_};
+ghost use lib.ListN.{length};
+ghost use Rattle.protocol.specs.Boards.{one-way, two-way, bind-tag};
+ghost use Rattle.protocol.specs.Image.{Current, allowed, total, view};
+ghost use Rattle.protocol.specs.Volatile.{depend};
+ghost use Rattle.protocol.specs.Calls.{Read, Write, first, tagging, placing};
+ghost use Rattle.blocks.specs.Puts.{Puts};
+ghost use Rattle.answers.specs.Promise.{Performed, Answered};
+ghost use Rattle.access.specs.Filled.{filled-from};
+ghost use Rattle.access.specs.Tests.{read-tests, write-tests, tag-at, refusal-at, write-refusal};
+
+// A read of a block with this tag: the board comes to depend on the writer, if that is another board.
+pub fn bind_read(state: Record, i: u8, tag: u8) -> Record
+    requires { ⌜ (i < 16) × (tag ≤ 16) ⌝ }
+    ensures { λ r. ⌜ r ≡ bind-tag depend one-way state i tag ⌝ }
+{
+    if tag == 0 {
+        return state;
+    }
+    let j = tag - 1;
+    if i == j {
+        return state;
+    }
+    state.depend(i, j)
+}
+
+// A write: the two come to depend on each other.
+pub fn bind_write(state: Record, i: u8, tag: u8) -> Record
+    requires { ⌜ (i < 16) × (tag ≤ 16) ⌝ }
+    ensures { λ r. ⌜ r ≡ bind-tag depend two-way state i tag ⌝ }
+{
+    if tag == 0 {
+        return state;
+    }
+    let j = tag - 1;
+    if i == j {
+        return state;
+    }
+    let once = state.depend(i, j);
+    once.depend(j, i)
+}
+
+// The first n bytes of the buffer become those of the image from `at` on.
+pub fn fill(image: &[u8], at: usize, n: usize, buffer: &mut [u8])
+    requires { ⌜ (at + n ≤ length (now image)) × (n ≤ length (now buffer)) ⌝ }
+    ensures { λ _. ⌜ now (buffer .exit) ≡ filled-from (now (image .entry)) at n (now (buffer .entry)) ⌝ }
+{
+    for x in 0..n {
+        let byte = image[at + x];
+        buffer[x] = byte;
+    }
+}
+
+// The tag of the block at a cell.
+fn block_tag(image: &[u8], s: Shape, cell: usize) -> u8
+    requires { ⌜ (allowed s ≡ true) × (length (now image) ≡ total s) × (cell < s .blocks * s .size) ⌝ }
+    ensures { λ r. ⌜ r ≡ tag-at s (view s (now (image .entry))) cell ⌝ }
+{
+    let b = cell / s.size;
+    image[12 + b]
+}
+
+// What a read tests after the common tests: 2, 5, 11 for the block's tag, 13.
+fn read_tests(
+    image: &[u8],
+    s: Shape,
+    state: Record,
+    board: usize,
+    cell: usize,
+    n: usize,
+    room: usize,
+) -> u8
+    requires { ⌜ (allowed s ≡ true) × (length (now image) ≡ total s) × (board < s .boards) ⌝ }
+    ensures { λ r. ⌜ r ≡ first (read-tests s (view s (now (image .entry))) state board cell n room) ⌝ }
+{
+    if bad_range(s, cell, n) {
+        return 2;
+    }
+    if n > room {
+        return 5;
+    }
+    let tag = block_tag(image, s, cell);
+    if tag as usize > s.boards {
+        return 11;
+    }
+    let members = state.commit.members;
+    if has(members, board as u8) {
+        return 13;
+    }
+    0
+}
+
+// A read's refusal, 0 for none.
+fn read_refusal(image: &[u8], state: Record, board: usize, cell: usize, n: usize, room: usize) -> u8
+    ensures { λ r. ⌜ r ≡ refusal-at (now (image .entry)) state (Read board cell n room) ⌝ }
+{
+    let early = common_refusal(image, state, board);
+    if early != 0 {
+        return early;
+    }
+    let s = shape_of(image);
+    read_tests(image, s, state, board, cell, n, room)
+}
+
+// The first n bytes of the buffer become the current bytes from the cell on; the board comes to depend on their writer.
+pub fn read(
+    image: &[u8],
+    state: Record,
+    board: usize,
+    cell: usize,
+    n: usize,
+    buffer: &mut [u8],
+) -> Reply
+    ensures { λ r. ⌜ Answered (Read board cell n (length (now (buffer .entry)))) (now (image .entry)) state
+        (now (buffer .entry)) r (now (buffer .exit)) ⌝ }
+{
+    let number = read_refusal(image, state, board, cell, n, buffer.len());
+    if number != 0 {
+        return refusal(number, state);
+    }
+    let s = shape_of(image);
+    let tag = block_tag(image, s, cell);
+    let next = bind_read(state, board as u8, tag);
+    let from = current_at(s) + cell;
+    fill(image, from, n, buffer);
+    let none = Budget {
+        left: 0,
+        cut: false,
+    };
+    finish(0, none, false, 0, next)
+}
+
+// What a write tests after the common tests: 2, 11 for the block's tag, 13 for a member and for a member's block.
+fn write_tests(image: &[u8], s: Shape, state: Record, board: usize, cell: usize, n: usize) -> u8
+    requires { ⌜ (allowed s ≡ true) × (length (now image) ≡ total s) × (board < s .boards) ⌝ }
+    ensures { λ r. ⌜ r ≡ first (write-tests s (view s (now (image .entry))) state board cell n) ⌝ }
+{
+    if bad_range(s, cell, n) {
+        return 2;
+    }
+    let tag = block_tag(image, s, cell);
+    if tag as usize > s.boards {
+        return 11;
+    }
+    let members = state.commit.members;
+    if has(members, board as u8) {
+        return 13;
+    }
+    if tagged_in(members, tag) {
+        return 13;
+    }
+    0
+}
+
+// The refusal of a write of n bytes, 0 for none.
+fn write_refusal(image: &[u8], state: Record, board: usize, cell: usize, n: usize) -> u8
+    ensures { λ r. ⌜ r ≡ write-refusal (now (image .entry)) state board cell n ⌝ }
+{
+    let early = common_refusal(image, state, board);
+    if early != 0 {
+        return early;
+    }
+    let s = shape_of(image);
+    write_tests(image, s, state, board, cell, n)
+}
+
+// The tag of the block at a cell, if it is not the writer's.
+fn put_tag(image: &mut [u8], s: Shape, cell: usize, i: u8, k: Budget) -> Budget
+    requires { ⌜ (allowed s ≡ true) × (length (now image) ≡ total s) × (cell < s .blocks * s .size) × (i < 16) ⌝ }
+    ensures { λ r. ⌜ Puts s (tagging (view s (now (image .entry))) i (cell / s .size ∷ [])) k
+        (now (image .entry)) r (now (image .exit)) ⌝ }
+{
+    let tag = block_tag(image, s, cell);
+    let own = i + 1;
+    if tag == own {
+        return k;
+    }
+    let b = cell / s.size;
+    store(image, 12 + b, own, k)
+}
+
+// The tag, then the bytes, ascending.
+fn put_bytes(image: &mut [u8], s: Shape, cell: usize, i: u8, bytes: &[u8], k: Budget) -> Budget
+    requires { ⌜ (allowed s ≡ true) × (length (now image) ≡ total s) × (cell < s .blocks * s .size) × (i < 16) ⌝ }
+    requires { ⌜ cell + length (now bytes) ≤ s .blocks * s .size ⌝ }
+    ensures { λ r. ⌜ Puts s (tagging (view s (now (image .entry))) i (cell / s .size ∷ [])
+        ++ placing Current cell (now (bytes .entry))) k (now (image .entry)) r (now (image .exit)) ⌝ }
+{
+    let at = current_at(s) + cell;
+    let tagged = put_tag(image, s, cell, i, k);
+    put_all(image, at, bytes, tagged)
+}
+
+// The bytes become the current bytes from the cell on; the board and the block's writer come to depend on each other.
+pub fn write(
+    image: &mut [u8],
+    state: Record,
+    board: usize,
+    cell: usize,
+    bytes: &[u8],
+    k: usize,
+) -> Reply
+    ensures { λ r. ⌜ Performed (Write board cell (now (bytes .entry)) k) (now (image .entry)) state
+        r (now (image .exit)) ⌝ }
+{
+    let number = write_refusal(image, state, board, cell, bytes.len());
+    if number != 0 {
+        return refusal(number, state);
+    }
+    let s = shape_of(image);
+    let i = board as u8;
+    let tag = block_tag(image, s, cell);
+    let next = bind_write(state, i, tag);
+    let all = Budget {
+        left: k,
+        cut: false,
+    };
+    let left = put_bytes(image, s, cell, i, bytes, all);
+    finish(k, left, false, 0, next)
+}
