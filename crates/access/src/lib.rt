@@ -28,7 +28,7 @@ ghost use Rattle.access.specs.Filled.{filled-from};
 ghost use Rattle.access.specs.Tests.{read-tests, write-tests, tag-at, refusal-at, write-refusal};
 
 // A read of a block with this tag: the board comes to depend on the writer, if that is another board.
-pub fn bind_read(state: Record, i: u8, tag: u8) -> Record
+fn bind_read(state: Record, i: u8, tag: u8) -> Record
     requires { ⌜ (i < 16) × (tag ≤ 16) ⌝ }
     ensures { λ r. ⌜ r ≡ bind-tag depend one-way state i tag ⌝ }
 {
@@ -43,7 +43,7 @@ pub fn bind_read(state: Record, i: u8, tag: u8) -> Record
 }
 
 // A write: the two come to depend on each other.
-pub fn bind_write(state: Record, i: u8, tag: u8) -> Record
+fn bind_write(state: Record, i: u8, tag: u8) -> Record
     requires { ⌜ (i < 16) × (tag ≤ 16) ⌝ }
     ensures { λ r. ⌜ r ≡ bind-tag depend two-way state i tag ⌝ }
 {
@@ -59,7 +59,7 @@ pub fn bind_write(state: Record, i: u8, tag: u8) -> Record
 }
 
 // The first n bytes of the buffer become those of the image from `at` on.
-pub fn fill(image: &[u8], at: usize, n: usize, buffer: &mut [u8])
+fn fill(image: &[u8], at: usize, n: usize, buffer: &mut [u8])
     requires { ⌜ (at + n ≤ length (now image)) × (n ≤ length (now buffer)) ⌝ }
     ensures { λ _. ⌜ now (buffer .exit) ≡ filled-from (now (image .entry)) at n (now (buffer .entry)) ⌝ }
 {

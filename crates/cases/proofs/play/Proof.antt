@@ -1,0 +1,82 @@
+-- `play` stays within its slices and ends.
+use borrow.Author.Needs.{needs}
+use Prim.Native.Nat.{_-_}
+use mathlib.Core.Path.{_≡_}
+use lib.ListN.{length}
+use Rattle.cases.proofs.play.Statement.{statement}
+use Rattle.cases.proofs.play.Tie as tie
+
+abbrev Inv-loop : tie.InvT-loop
+Inv-loop text image₀ before₀ other₀ spare₀ source bench₀ at₀ image before other spare bench at =
+    (length image ≡ length image₀) × (length before ≡ length before₀)
+    × (length other ≡ length other₀) × (length spare ≡ length spare₀)
+
+abbrev μ-loop : tie.MeasureT-loop
+μ-loop text image₀ before₀ other₀ spare₀ source bench₀ at₀ image before other spare bench at = length text - at
+
+new-requires : tie.Need-new-requires Inv-loop μ-loop
+new-requires c κs = search needs
+
+loop-holds : tie.Need-loop-holds Inv-loop μ-loop
+loop-holds c = search needs
+
+line-end-requires : tie.Need-line-end-requires Inv-loop μ-loop
+line-end-requires c κs = search needs
+
+sub-play-line : tie.Need-sub-play-line Inv-loop μ-loop
+sub-play-line c = search needs
+
+part-play-line-start : tie.Need-part-play-line-start Inv-loop μ-loop
+part-play-line-start c = search needs
+
+part-play-line-end : tie.Need-part-play-line-end Inv-loop μ-loop
+part-play-line-end c = search needs
+
+play-line-requires : tie.Need-play-line-requires Inv-loop μ-loop
+play-line-requires c κs = search needs
+
+after-requires : tie.Need-after-requires Inv-loop μ-loop
+after-requires c κs = search needs
+
+loop-less : tie.Need-loop-less Inv-loop μ-loop
+loop-less c = search needs
+
+loop-again : tie.Need-loop-again Inv-loop μ-loop
+loop-again c = search needs
+
+same-length : tie.Need-same-length Inv-loop μ-loop
+same-length c = search needs
+
+same-length-2 : tie.Need-same-length-2 Inv-loop μ-loop
+same-length-2 c = search needs
+
+same-length-3 : tie.Need-same-length-3 Inv-loop μ-loop
+same-length-3 c = search needs
+
+same-length-4 : tie.Need-same-length-4 Inv-loop μ-loop
+same-length-4 c = search needs
+
+returns : tie.Need-returns Inv-loop μ-loop
+returns c = search needs
+
+pub play-spec : {M : Type 1} → statement M
+play-spec =
+    tie.close
+    (tie.spec
+    Inv-loop
+    μ-loop
+    new-requires
+    loop-holds
+    line-end-requires
+    sub-play-line
+    part-play-line-start
+    part-play-line-end
+    play-line-requires
+    after-requires
+    loop-less
+    loop-again
+    same-length
+    same-length-2
+    same-length-3
+    same-length-4
+    returns)

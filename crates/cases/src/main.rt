@@ -1,0 +1,72 @@
+// Plays the requests of standard input on the module and writes each with its answer. A request is a line: a letter
+// and numbers parted by blanks, the first of which is the allowance k. Lines that begin with '#' are remarks.
+//
+//   F k P S B K length      format an image of that length
+//   W k board cell n first  write n bytes: first, first + 1, ..
+//   C k board n first       start, with such bytes as context
+//   A k board n first       acknowledge
+//   X k board               fault
+//   U k                     power-up
+//   w, c, a, x              as W, C, A, X with k = 0, 1, .. until it is done; each is powered up, and that
+//                           power-up is cut at every k too and made again; the image stays as it was
+//   R 0 board cell n room   read into a buffer of that length
+//   K 0 board               context
+//   S 0                     same: the image and the remembered one
+//   M 0                     remember the image
+//   L length                the image lent from now on has that length
+//   P at byte               that byte of the image becomes this
+//   Q place number          0 to 15: that row of the record; 16 on, 17 starter, 18 members, 19 acknowledged
+mod bench;
+mod calls;
+mod cuts;
+mod lines;
+mod tell;
+mod text;
+
+use bench::Bench;
+use text::after;
+use text::line_end;
+
+fn play(
+    text: &[u8],
+    image: &mut [u8],
+    before: &mut [u8],
+    other: &mut [u8],
+    spare: &mut [u8],
+    source: &[u8],
+) {
+    let mut bench = Bench::new();
+    let mut at = 0;
+    while at < text.len() {
+        let end = line_end(text, at);
+        bench = lines::play_line(&text[at..end], image, before, other, spare, source, bench);
+        at = after(at, end, text.len());
+    }
+}
+
+fn count_up(source: &mut [u8]) {
+    let mut i = 0;
+    while i < source.len() {
+        source[i] = (i % 256) as u8;
+        i += 1;
+    }
+}
+
+fn main() {
+    let mut text = [0u8; 32768];
+    let mut image = [0u8; 36000];
+    let mut before = [0u8; 36000];
+    let mut other = [0u8; 36000];
+    let mut spare = [0u8; 36000];
+    let mut source = [0u8; 256];
+    count_up(&mut source);
+    let n = io::read_full(0, &mut text);
+    play(
+        &text[0..n],
+        &mut image,
+        &mut before,
+        &mut other,
+        &mut spare,
+        &source,
+    );
+}
