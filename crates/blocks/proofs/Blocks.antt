@@ -1,6 +1,6 @@
 -- One block and one context: the stores of the leaves are the puts of the definitions.
-use Prim.Native.Nat.{ℕ, zero, suc, _+_, _*_, _/_, _%_, _≤_, _<_}
-use native.Mathlib.Nat.{mul-le-mul-right, suc-mul}
+use Prim.Native.Nat.{ℕ, zero, suc, _+_, _-_, _*_, _/_, _%_, _≤_, _<_}
+use native.Mathlib.Nat.{mul-le-mul-right, suc-mul, add-zero, add-suc}
 use mathlib.Core.Path.{_≡_, refl, sym, _∙_, ap, subst}
 use mathlib.Core.Bool.{Bool, true, false, not, cond}
 use mathlib.Core.List.{List, [], _∷_, _++_, map, map-append}
@@ -152,6 +152,25 @@ module _ {s : Shape} {x : List ℕ} (long : length x ≡ total s) {k r : Budget}
   blocks-again g save b l p q =
       rw add-one
       (block-round long well (bank save) (bank (not save)) (tagged-in g) (to-bank save) (from-apart save .0) (from-apart save .1) b l p q)
+
+  -- blocks without a writer have no round
+  skipped : (g : ℕ) (save : Bool) (b d : ℕ) → b + d ≤ s .blocks
+      → ((j : ℕ) → b ≤ j → j < b + d → getD y (12 + j) 0 ≡ 0)
+      → Puts s (for b (block-puts s (view s x) g save)) k x r y → Puts s (for (b + d) (block-puts s (view s x) g save)) k x r y
+  skipped g save b zero l none p = rw add-zero p
+  skipped g save b (suc d) l none p =
+      let before = skipped g save b d (omega arith) (λ j h i. none j h (omega arith)) p in
+      let empty = tag-none g (getD y (12 + (b + d)) 0) (none (b + d) (omega arith) (omega arith)) in
+      rw (add-suc, ← add-one)
+      (blocks-again g save (b + d) (omega arith) before (block-left g save (b + d) (omega arith) empty))
+
+  pub blocks-skip : (g : ℕ) (save : Bool) (b c : ℕ) → b ≤ c → c ≤ s .blocks
+      → ((j : ℕ) → b ≤ j → j < c → getD y (12 + j) 0 ≡ 0)
+      → Puts s (for b (block-puts s (view s x) g save)) k x r y → Puts s (for c (block-puts s (view s x) g save)) k x r y
+  blocks-skip g save b c l m none p =
+      let all : b + (c - b) ≡ c = omega arith in
+      subst (λ (n : ℕ). Puts s (for n (block-puts s (view s x) g save)) k x r y) all
+      (skipped g save b (c - b) (omega arith) (λ j h i. none j h (omega arith)) p)
 
   pub contexts-again : (g i : ℕ) {r′ : Budget} {z : List ℕ} → i < s .boards
       → Puts s (for i (context-saved s (view s x) g)) k x r y → Puts s (context-saved s (view s y) g i) r y r′ z

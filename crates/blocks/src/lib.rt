@@ -9,8 +9,8 @@ use store::store;
 ghost use mathlib.Core.Path.{_≡_};
 ghost use mathlib.Core.Bool.{true, false, cond};
 ghost use mathlib.Core.List.{[], _∷_};
-ghost use Prim.Native.Nat.{_+_, _<_, _%_, _/_};
-ghost use lib.ListN.{length};
+ghost use Prim.Native.Nat.{ℕ, _+_, _≤_, _<_, _%_, _/_};
+ghost use lib.ListN.{length, getD};
 ghost use Rattle.protocol.specs.Lists.{for};
 ghost use Rattle.protocol.specs.Image.{allowed, total, view, put, Decision, Group};
 ghost use Rattle.protocol.specs.Calls.{tagged-in, context-saved, completing};
@@ -61,15 +61,32 @@ fn copy_block(image: &mut [u8], s: Shape, g: u16, save: bool, b: usize, k: Budge
     store(image, 12 + b, 0, copied)
 }
 
-// All blocks, ascending.
+// The first block from b on that has an active writer, or B.
+fn next_tagged(image: &[u8], s: Shape, b: usize) -> usize
+    requires { ⌜ (allowed s ≡ true) × (length (now image) ≡ total s) × (b ≤ s .blocks) ⌝ }
+    ensures { λ r. ⌜ (b ≤ r) × (r ≤ s .blocks) × ((j : ℕ) → b ≤ j → j < r → getD (now (image .entry)) (12 + j) 0 ≡ 0) ⌝ }
+{
+    let mut i = b;
+    while i < s.blocks {
+        if image[12 + i] != 0 {
+            return i;
+        }
+        i += 1;
+    }
+    i
+}
+
+// All blocks, ascending; those without a writer are passed over.
 pub fn copy_blocks(image: &mut [u8], s: Shape, g: u16, save: bool, k: Budget) -> Budget
     requires { ⌜ (allowed s ≡ true) × (length (now image) ≡ total s) × WellBudget k ⌝ }
     ensures { λ r. ⌜ Puts s (blocks-puts s (view s (now (image .entry))) g save) k
         (now (image .entry)) r (now (image .exit)) ⌝ }
 {
     let mut left = k;
-    for b in 0..s.blocks {
+    let mut b = next_tagged(image, s, 0);
+    while b < s.blocks {
         left = copy_block(image, s, g, save, b, left);
+        b = next_tagged(image, s, b + 1);
     }
     left
 }

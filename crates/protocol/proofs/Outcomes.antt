@@ -29,7 +29,7 @@ passed true n ts h e = absurd (h e)
 passed false n ts h e = (refl, e)
 
 -- no refusal has the number that says "cut"
-uncut : (ts : List Test) → anyOf (λ t. eqb (t .number) 9) ts ≡ false → first ts ≢ 9
+pub uncut : (ts : List Test) → anyOf (λ t. eqb (t .number) 9) ts ≡ false → first ts ≢ 9
 unfolding first anyOf
 uncut [] h e = omega arith
 uncut (t ∷ ts) h e =
@@ -39,7 +39,7 @@ uncut (t ∷ ts) h e =
     (λ (b : t .holds ≡ false). uncut ts (both .1) (sym (ap (λ c. cond c (t .number) (first ts)) b) ∙ e))
     (decide (t .holds))
 
-refusals-uncut : (image : List ℕ) (s : Shape) (m : Memory) (r : Record) (call : Call)
+pub refusals-uncut : (image : List ℕ) (s : Shape) (m : Memory) (r : Record) (call : Call)
     → anyOf (λ t. eqb (t .number) 9) (refusals image s m r call) ≡ false
 unfolding refusals common anyOf
 refusals-uncut image s m r (Read i a n room) = refl

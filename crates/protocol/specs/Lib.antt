@@ -5,5 +5,4 @@ pub mod Volatile
 pub mod Calls
 pub mod Ledger
 pub mod Claim
-pub mod Example
 pub mod Rows

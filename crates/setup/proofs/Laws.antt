@@ -1,15 +1,16 @@
 -- The stores of a format, round by round and all together; none of them decides; how the call ends.
-use Prim.Native.Nat.{ℕ, suc, _+_, _-_, _≤_}
-use mathlib.Core.Path.{_≡_, refl, sym, _∙_, ap}
+use Prim.Native.Nat.{ℕ, zero, suc, _+_, _-_, _≤_}
+use mathlib.Core.Path.{_≡_, refl, sym, _∙_, ap, ap₂, subst}
 use mathlib.Core.Bool.{true, false, not}
-use mathlib.Core.List.{List, [], _∷_}
+use mathlib.Core.List.{List, [], _∷_, _++_}
 use mathlib.Core.Logic.{_≢_, ⊎-elim}
 use lib.Dec.{eqb}
-use lib.ListN.{length, getD, take}
+use lib.ListN.{length, getD, take, List·getD-eq-default}
+use native.Mathlib.Nat.{zero-add, add-zero, suc-add, add-suc}
 use native.Mathlib.Omega.{arith}
 use borrow.Author.Tests.{eq-eqb, ne-eqb, eqb-true}
-use Rattle.protocol.specs.Lists.{anyOf}
-use Rattle.protocol.specs.Image.{allowed, total, mark, header}
+use Rattle.protocol.specs.Lists.{anyOf, span}
+use Rattle.protocol.specs.Image.{Store, allowed, total, mark, header}
 use Rattle.protocol.specs.Volatile.{fresh}
 use Rattle.protocol.specs.Calls.{first, refused, decides, format-refusals, formatting, format}
 use Rattle.protocol.specs.declared.Shape.{Shape}
@@ -22,25 +23,43 @@ use Rattle.store.proofs.Laws.{makes-then}
 use Rattle.store.proofs.Runs.{span-more, all-span}
 use Rattle.answers.specs.Promise.{Formatted, reply-of, refusal-of}
 use Rattle.answers.proofs.Ends.{made-outcome, first-held, first-passed}
-use Rattle.setup.specs.Stores.{header-store, header-stores}
+use Rattle.setup.specs.Stores.{header-store, zero-store}
 
 -- ---- the stores
 
 -- one byte more
-pub filled-more : (s : Shape) (i : ℕ) {v : ℕ} {b r r′ : Budget} {x y z : List ℕ} → 1 ≤ i → v ≡ getD (header s) i 0 →
-    Makes (header-stores s (i - 1)) b x r y → Makes (one i v ∷ []) r y r′ z →
-    Makes (header-stores s (i + 1 - 1)) b x r′ z
-filled-more s i l e m n =
-    let next : i + 1 - 1 ≡ suc (i - 1) = omega arith in
-    let here : 1 + (i - 1) ≡ i = omega arith in
-    rw (next, span-more (header-store s) 1 (i - 1), here) (makes-then m (rw e at n))
+pub filled-more : (f : ℕ → Store) (a i : ℕ) {v : ℕ} {b r r′ : Budget} {x y z : List ℕ} → a ≤ i → one i v ≡ f i →
+    Makes (span f a (i - a)) b x r y → Makes (one i v ∷ []) r y r′ z → Makes (span f a (i + 1 - a)) b x r′ z
+filled-more f a i {v} {r} {r′} {y} {z} l e m n =
+    let next : i + 1 - a ≡ suc (i - a) = omega arith in
+    let here : a + (i - a) ≡ i = omega arith in
+    rw (next, span-more f a (i - a), here) (makes-then m (subst (λ (t : Store). Makes (t ∷ []) r y r′ z) e n))
 
--- byte 0, the others, byte 0 again
-pub laid-out : (s : Shape) {b c d r : Budget} {w x y z : List ℕ} →
-    Makes (one 0 0 ∷ []) b w c x → Makes (header-stores s (total s - 1)) c x d y →
-    Makes (one 0 (getD mark 0 0) ∷ []) d y r z → Makes (formatting s) b w r z
+-- a run of stores in two parts, and the second of them by another function
+span-parts : (f g : ℕ → Store) (a m n : ℕ) → ((i : ℕ) → a + m ≤ i → f i ≡ g i) → span f a (m + n) ≡ span f a m ++ span g (a + m) n
+unfolding span
+span-parts f g a zero zero h = refl
+span-parts f g a zero (suc n) h =
+    rw (zero-add, add-zero)
+    (ap₂ (λ (s : Store) (ss : List Store). s ∷ ss) (h a (omega arith))
+    (rw (zero-add, add-zero) at (span-parts f g (suc a) zero n (λ i l. h i (omega arith)))))
+span-parts f g a (suc m) n h =
+    rw (suc-add, add-suc)
+    (ap (λ (ss : List Store). f a ∷ ss) (rw suc-add at (span-parts f g (suc a) m n (λ i l. h i (omega arith)))))
+
+past-header : (s : Shape) (i : ℕ) → 9 ≤ i → header-store s i ≡ zero-store i
+unfolding header mark
+past-header s i l = ap (one i) (List·getD-eq-default (header s) 0 {n = i} (omega arith))
+
+-- byte 0, the header, zeros, byte 0 again
+pub laid-out : (s : Shape) (n : ℕ) {b c d e r : Budget} {v w x y z : List ℕ} → n ≡ total s → 9 ≤ n →
+    Makes (one 0 0 ∷ []) b v c w → Makes (span (header-store s) 1 8) c w d x → Makes (span zero-store 9 (n - 9)) d x e y →
+    Makes (one 0 (getD mark 0 0) ∷ []) e y r z → Makes (formatting s) b v r z
 unfolding formatting
-laid-out s m n o = makes-then m (makes-then n o)
+laid-out s n long l m o p q =
+    let size : total s - 1 ≡ 8 + (n - 9) = omega arith in
+    rw (size, span-parts (header-store s) zero-store 1 8 (n - 9) (λ i h. past-header s i (omega arith)))
+    (makes-then m (makes-then (makes-then o p) q))
 
 -- ---- none decides: byte 9 is past the header and stored 0
 

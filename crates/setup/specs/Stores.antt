@@ -1,8 +1,6 @@
 -- The stores of a format that lie between its first and its last.
 use Prim.Native.Nat.{ℕ}
-use mathlib.Core.List.{List}
 use lib.ListN.{getD}
-use Rattle.protocol.specs.Lists.{span}
 use Rattle.protocol.specs.Image.{header, Store}
 use Rattle.protocol.specs.declared.Shape.{Shape}
 use Rattle.store.specs.Budget.{one}
@@ -11,6 +9,6 @@ use Rattle.store.specs.Budget.{one}
 abbrev pub header-store : Shape → ℕ → Store
 header-store s i = one i (getD (header s) i 0)
 
--- at n offsets from 1 on
-abbrev pub header-stores : Shape → ℕ → List Store
-header-stores s n = span (header-store s) 1 n
+-- past the header that is 0
+abbrev pub zero-store : ℕ → Store
+zero-store i = one i 0

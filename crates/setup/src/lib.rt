@@ -12,25 +12,40 @@ use store::Budget;
 use store::store;
 ghost use mathlib.Core.Path.{_≡_};
 ghost use mathlib.Core.Bool.{true};
-ghost use Prim.Native.Nat.{_-_};
+ghost use Prim.Native.Nat.{_-_, _≤_};
 ghost use lib.ListN.{length};
 ghost use Rattle.protocol.specs.Image.{allowed, total};
 ghost use Rattle.protocol.specs.Calls.{formatting};
 ghost use Rattle.store.specs.Budget.{Makes};
 ghost use Rattle.answers.specs.Promise.{Formatted};
-ghost use Rattle.setup.specs.Stores.{header-stores};
+ghost use Rattle.protocol.specs.Lists.{span};
+ghost use Rattle.setup.specs.Stores.{header-store, zero-store};
 
-// Bytes 1 to the last, ascending: the header's, then zeros.
-fn fill(image: &mut [u8], s: Shape, k: Budget) -> Budget
+// Bytes 1 to 8, ascending: the header's.
+fn fill_header(image: &mut [u8], s: Shape, k: Budget) -> Budget
     requires { ⌜ (allowed s ≡ true) × (length (now image) ≡ total s) ⌝ }
-    ensures { λ r. ⌜ Makes (header-stores s (total s - 1)) k (now (image .entry)) r (now (image .exit)) ⌝ }
+    ensures { λ r. ⌜ Makes (span (header-store s) 1 8) k (now (image .entry)) r (now (image .exit)) ⌝ }
 {
-    let last = image.len() - 1;
     let mut left = k;
     let mut i = 1;
-    while i <= last {
+    while i < 9 {
         let byte = header_byte(s, i);
         left = store(image, i, byte, left);
+        i += 1;
+    }
+    left
+}
+
+// The bytes from 9 on: zeros.
+fn fill_zeros(image: &mut [u8], k: Budget) -> Budget
+    requires { ⌜ 9 ≤ length (now image) ⌝ }
+    ensures { λ r. ⌜ Makes (span zero-store 9 (length (now (image .entry)) - 9)) k (now (image .entry)) r (now (image .exit)) ⌝ }
+{
+    let end = image.len();
+    let mut left = k;
+    let mut i = 9;
+    while i < end {
+        left = store(image, i, 0, left);
         i += 1;
     }
     left
@@ -42,7 +57,8 @@ fn lay_out(image: &mut [u8], s: Shape, k: Budget) -> Budget
     ensures { λ r. ⌜ Makes (formatting s) k (now (image .entry)) r (now (image .exit)) ⌝ }
 {
     let unmarked = store(image, 0, 0, k);
-    let filled = fill(image, s, unmarked);
+    let named = fill_header(image, s, unmarked);
+    let filled = fill_zeros(image, named);
     let first = MARK[0];
     store(image, 0, first, filled)
 }

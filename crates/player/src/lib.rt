@@ -1,0 +1,339 @@
+// Plays an event on image, record and pending allowance, and writes its output lines.
+use access::read;
+use access::write;
+use commit::acknowledge;
+use commit::start;
+use layout::allowed;
+use layout::total;
+use printing::put_row;
+use protocol::Answer;
+use protocol::Record;
+use protocol::Reply;
+use protocol::Shape;
+use recovery::fault;
+use recovery::power_up;
+use setup::format;
+use text::Parsed;
+ghost use mathlib.Core.Path.{_≡_};
+ghost use mathlib.Core.Bool.{cond};
+ghost use mathlib.Core.List.{List, []};
+ghost use Prim.Native.Nat.{ℕ, _+_, _≤_};
+ghost use lib.Dec.{eqb};
+ghost use lib.ListN.{length, take, drop, replicate};
+ghost use Rattle.protocol.specs.declared.Record.{Record as State};
+ghost use Rattle.protocol.specs.Calls.{perform, Read, Write, Start, Acknowledge, Fault, Power-up};
+ghost use Rattle.text.specs.Events.{Format, Make, Allow, Unreadable, room, counted, meant};
+ghost use Rattle.text.specs.Turns.{ended, told, uncut, play};
+ghost use Rattle.answers.specs.Promise.{Formatted};
+ghost use Rattle.player.specs.Turned.{player-of, Ready, Turns, Powered};
+
+// More than any call stores.
+const UNCUT: usize = 65535;
+
+// What stands between two lines: the image's length in its area, the record, the allowance of the next line.
+pub struct Session {
+    pub length: usize,
+    pub state: Record,
+    pub k: usize,
+}
+
+// The next session, and where the output goes on.
+pub struct Turned {
+    pub next: Session,
+    pub at: usize,
+}
+
+// The image is powered up, uncut, and that row is written.
+fn power_turn(
+    area: &mut [u8],
+    size: usize,
+    none: &[u8],
+    number: usize,
+    out: &mut [u8],
+    at: usize,
+) -> Turned
+    requires { ⌜ (size ≤ length (now area)) × (at + 160 ≤ length (now out)) ⌝ }
+    ensures { λ r. ⌜ ((state : State) → Powered (perform (take size (now (area .entry))) state (Power-up uncut))
+        size number at (now (out .entry)) r (now (area .exit)) (now (out .exit))) ⌝ }
+{
+    let up = power_up(&mut area[0..size], UNCUT);
+    let answer = up.answer;
+    let state = up.next;
+    let end = put_row(out, at, number, b'U', answer, &none[0..0]);
+    let next = Session {
+        length: size,
+        state,
+        k: UNCUT,
+    };
+    Turned { next, at: end }
+}
+
+// A call's row; after a cut the power-up follows.
+fn end_turn(
+    area: &mut [u8],
+    size: usize,
+    reply: Reply,
+    letter: u8,
+    bytes: &[u8],
+    number: usize,
+    out: &mut [u8],
+    at: usize,
+) -> Turned
+    requires { ⌜ (size ≤ 35852) × (35852 ≤ length (now area)) × (length (now bytes) ≤ 64) × (at + 320 ≤ length (now out)) ⌝ }
+    ensures { λ r. ⌜ Turns (ended letter (record { reply = reply; image = take size (now (area .entry)); bytes = now (bytes .entry) }))
+        number at (now (out .entry)) r (now (area .exit)) (now (out .exit)) ⌝ }
+{
+    let answer = reply.answer;
+    let state = reply.next;
+    let end = put_row(out, at, number, letter, answer, bytes);
+    if answer.status == 9 {
+        return power_turn(area, size, bytes, number, out, end);
+    }
+    let next = Session {
+        length: size,
+        state,
+        k: UNCUT,
+    };
+    Turned { next, at: end }
+}
+
+// The row of a line that makes no call; k is the allowance of the next line.
+fn tell(
+    p: Session,
+    letter: u8,
+    status: u8,
+    k: usize,
+    none: &[u8],
+    number: usize,
+    out: &mut [u8],
+    at: usize,
+) -> Turned
+    requires { ⌜ (p .length ≤ 35852) × (at + 320 ≤ length (now out)) ⌝ }
+    ensures { λ r. ⌜ ((area : List ℕ) → Turns (told letter status (record { image = take (p .length) area; state = p .state; k = k }))
+        number at (now (out .entry)) r area (now (out .exit))) ⌝ }
+{
+    let answer = Answer {
+        status,
+        decided: false,
+        group: 0,
+        stores: 0,
+    };
+    let end = put_row(out, at, number, letter, answer, &none[0..0]);
+    let state = p.state;
+    let next = Session {
+        length: p.length,
+        state,
+        k,
+    };
+    Turned { next, at: end }
+}
+
+// A buffer becomes zeros.
+fn clear(s: &mut [u8])
+    ensures { λ _. ⌜ now (s .exit) ≡ replicate (length (now (s .entry))) 0 ⌝ }
+{
+    let mut i = 0;
+    while i < s.len() {
+        s[i] = 0;
+        i += 1;
+    }
+}
+
+// The first `size` bytes of the area are zeroed, and formatted.
+fn format_anew(area: &mut [u8], s: Shape, size: usize, k: usize, state: Record) -> Reply
+    requires { ⌜ size ≤ length (now area) ⌝ }
+    ensures { λ r. ⌜ Formatted s (replicate size 0) state k r (take size (now (area .exit))) ⌝ }
+{
+    clear(&mut area[0..size]);
+    format(&mut area[0..size], s, k, state)
+}
+
+// A format within the limits first makes the image that length, all zero.
+fn play_format(
+    area: &mut [u8],
+    p: Session,
+    s: Shape,
+    none: &[u8],
+    number: usize,
+    out: &mut [u8],
+    at: usize,
+) -> Turned
+    requires { ⌜ Ready p at (now area) (now out) ⌝ }
+    ensures { λ r. ⌜ Turns (play (player-of p (now (area .entry))) (Format s)) number at
+        (now (out .entry)) r (now (area .exit)) (now (out .exit)) ⌝ }
+{
+    let state = p.state;
+    if !allowed(s) {
+        let length = p.length;
+        let reply = format(&mut area[0..length], s, p.k, state);
+        return end_turn(area, length, reply, b'F', &none[0..0], number, out, at);
+    }
+    let size = total(s);
+    let reply = format_anew(area, s, size, p.k, state);
+    end_turn(area, size, reply, b'F', &none[0..0], number, out, at)
+}
+
+// The bytes that a read answered: all or none.
+fn answered(status: u8, n: usize) -> usize
+    ensures { λ r. ⌜ r ≡ cond (eqb status 0) n 0 ⌝ }
+{
+    if status == 0 { n } else { 0 }
+}
+
+fn play_read(
+    area: &mut [u8],
+    p: Session,
+    board: usize,
+    cell: usize,
+    n: usize,
+    number: usize,
+    out: &mut [u8],
+    at: usize,
+) -> Turned
+    requires { ⌜ Ready p at (now area) (now out) ⌝ }
+    ensures { λ r. ⌜ Turns (play (player-of p (now (area .entry))) (Make (Read board cell n room))) number at
+        (now (out .entry)) r (now (area .exit)) (now (out .exit)) ⌝ }
+{
+    let length = p.length;
+    let state = p.state;
+    let mut buffer = [0u8; 64];
+    let reply = read(&area[0..length], state, board, cell, n, &mut buffer);
+    let count = answered(reply.answer.status, n);
+    end_turn(
+        area,
+        length,
+        reply,
+        b'R',
+        &buffer[0..count],
+        number,
+        out,
+        at,
+    )
+}
+
+fn play_write(
+    area: &mut [u8],
+    p: Session,
+    board: usize,
+    cell: usize,
+    bytes: &[u8],
+    number: usize,
+    out: &mut [u8],
+    at: usize,
+) -> Turned
+    requires { ⌜ Ready p at (now area) (now out) ⌝ }
+    ensures { λ r. ⌜ Turns (play (player-of p (now (area .entry))) (Make (Write board cell (now (bytes .entry)) 0))) number at
+        (now (out .entry)) r (now (area .exit)) (now (out .exit)) ⌝ }
+{
+    let length = p.length;
+    let state = p.state;
+    let reply = write(&mut area[0..length], state, board, cell, bytes, p.k);
+    end_turn(area, length, reply, b'W', &bytes[0..0], number, out, at)
+}
+
+fn play_start(
+    area: &mut [u8],
+    p: Session,
+    board: usize,
+    bytes: &[u8],
+    number: usize,
+    out: &mut [u8],
+    at: usize,
+) -> Turned
+    requires { ⌜ Ready p at (now area) (now out) ⌝ }
+    ensures { λ r. ⌜ Turns (play (player-of p (now (area .entry))) (Make (Start board (now (bytes .entry)) 0))) number at
+        (now (out .entry)) r (now (area .exit)) (now (out .exit)) ⌝ }
+{
+    let length = p.length;
+    let state = p.state;
+    let reply = start(&mut area[0..length], state, board, bytes, p.k);
+    end_turn(area, length, reply, b'C', &bytes[0..0], number, out, at)
+}
+
+fn play_acknowledge(
+    area: &mut [u8],
+    p: Session,
+    board: usize,
+    bytes: &[u8],
+    number: usize,
+    out: &mut [u8],
+    at: usize,
+) -> Turned
+    requires { ⌜ Ready p at (now area) (now out) ⌝ }
+    ensures { λ r. ⌜ Turns (play (player-of p (now (area .entry))) (Make (Acknowledge board (now (bytes .entry)) 0))) number at
+        (now (out .entry)) r (now (area .exit)) (now (out .exit)) ⌝ }
+{
+    let length = p.length;
+    let state = p.state;
+    let reply = acknowledge(&mut area[0..length], state, board, bytes, p.k);
+    end_turn(area, length, reply, b'A', &bytes[0..0], number, out, at)
+}
+
+fn play_fault(
+    area: &mut [u8],
+    p: Session,
+    board: usize,
+    none: &[u8],
+    number: usize,
+    out: &mut [u8],
+    at: usize,
+) -> Turned
+    requires { ⌜ Ready p at (now area) (now out) ⌝ }
+    ensures { λ r. ⌜ Turns (play (player-of p (now (area .entry))) (Make (Fault board 0))) number at
+        (now (out .entry)) r (now (area .exit)) (now (out .exit)) ⌝ }
+{
+    let length = p.length;
+    let state = p.state;
+    let reply = fault(&mut area[0..length], state, board, p.k);
+    end_turn(area, length, reply, b'X', &none[0..0], number, out, at)
+}
+
+fn play_power_up(
+    area: &mut [u8],
+    p: Session,
+    none: &[u8],
+    number: usize,
+    out: &mut [u8],
+    at: usize,
+) -> Turned
+    requires { ⌜ Ready p at (now area) (now out) ⌝ }
+    ensures { λ r. ⌜ Turns (play (player-of p (now (area .entry))) (Make (Power-up 0))) number at
+        (now (out .entry)) r (now (area .exit)) (now (out .exit)) ⌝ }
+{
+    let length = p.length;
+    let reply = power_up(&mut area[0..length], p.k);
+    end_turn(area, length, reply, b'U', &none[0..0], number, out, at)
+}
+
+// Plays a line that was taken apart; its bytes stand at the start of the buffer.
+pub fn play(
+    area: &mut [u8],
+    p: Session,
+    line: Parsed,
+    buffer: &[u8],
+    number: usize,
+    out: &mut [u8],
+    at: usize,
+) -> Turned
+    requires { ⌜ (Ready p at (now area) (now out)) × (counted line ≤ length (now buffer)) ⌝ }
+    ensures { λ r. ⌜ Turns (play (player-of p (now (area .entry))) (meant line (now (buffer .entry)))) number at
+        (now (out .entry)) r (now (area .exit)) (now (out .exit)) ⌝ }
+{
+    match line {
+        Parsed::Format { shape } => play_format(area, p, shape, buffer, number, out, at),
+        Parsed::Read { board, cell, n } => play_read(area, p, board, cell, n, number, out, at),
+        Parsed::Write { board, cell, count } => {
+            play_write(area, p, board, cell, &buffer[0..count], number, out, at)
+        }
+        Parsed::Start { board, count } => {
+            play_start(area, p, board, &buffer[0..count], number, out, at)
+        }
+        Parsed::Acknowledge { board, count } => {
+            play_acknowledge(area, p, board, &buffer[0..count], number, out, at)
+        }
+        Parsed::Fault { board } => play_fault(area, p, board, buffer, number, out, at),
+        Parsed::PowerUp => play_power_up(area, p, buffer, number, out, at),
+        Parsed::Allow { k } => tell(p, b'Z', 0, k, buffer, number, out, at),
+        Parsed::Unreadable => tell(p, b'?', 6, UNCUT, buffer, number, out, at),
+    }
+}

@@ -1,0 +1,41 @@
+-- `put_digit` meets its contract: no character, or one.
+use borrow.Author.Needs.{needs}
+use native.Mathlib.Omega.{arith}
+use Rattle.printing.proofs.Laws.{appends-none, digit-none, digit-some}
+use Rattle.printing.proofs.put_digit.Statement.{statement}
+use Rattle.printing.proofs.put_digit.Tie as tie
+
+returns : tie.Need-returns
+returns c = rw (digit-none _ _ (c .if1 .taken)) (appends-none _ _ (omega arith))
+
+div-digit : tie.Need-div-digit
+div-digit c = search needs
+
+cast-digit : tie.Need-cast-digit
+cast-digit c = search needs
+
+add-put : tie.Need-add-put
+add-put c = search needs
+
+put-requires : tie.Need-put-requires
+put-requires c κs = search needs
+
+same-length : tie.Need-same-length
+same-length c = search needs
+
+returns-2 : tie.Need-returns-2
+returns-2 c =
+    let stored = c .before .before in
+    rw (digit-some _ _ (stored .before .before .if1 .left)) (stored .put .ensures)
+
+pub put-digit-spec : {M : Type 1} → statement M
+put-digit-spec =
+    tie.close
+    (tie.spec
+    returns
+    div-digit
+    cast-digit
+    add-put
+    put-requires
+    same-length
+    returns-2)

@@ -1,0 +1,40 @@
+-- `put_group` meets its contract: the high byte, then the low one.
+use borrow.Author.Needs.{needs}
+use native.Mathlib.Omega.{arith}
+use Rattle.text.specs.Rows.{byte-text, group-text}
+use Rattle.printing.proofs.Laws.{appends-then}
+use Rattle.printing.proofs.put_group.Statement.{statement}
+use Rattle.printing.proofs.put_group.Tie as tie
+
+cast-high : tie.Need-cast-high
+cast-high c = search needs
+
+cast-low : tie.Need-cast-low
+cast-low c = search needs
+
+put-byte-requires : tie.Need-put-byte-requires
+put-byte-requires c κs = search needs
+
+put-byte-requires-2 : tie.Need-put-byte-requires-2
+unfolding byte-text
+put-byte-requires-2 c κs = omega arith
+
+same-length : tie.Need-same-length
+same-length c = search needs
+
+returns : tie.Need-returns
+unfolding group-text
+returns c =
+    let low = c .before .before in
+    appends-then (low .before .before .before .before .put-byte .ensures) (low .put-byte2 .ensures)
+
+pub put-group-spec : {M : Type 1} → statement M
+put-group-spec =
+    tie.close
+    (tie.spec
+    cast-high
+    cast-low
+    put-byte-requires
+    put-byte-requires-2
+    same-length
+    returns)

@@ -1,0 +1,20 @@
+-- The three parts of an output line.
+use Prim.Native.Nat.{ℕ}
+use mathlib.Core.Bool.{Bool}
+use mathlib.Core.List.{List, [], _∷_, _++_}
+use Rattle.text.specs.Rows.{decimal, bytes-text, group-text, flag-text}
+
+abbrev pub between : ℕ → List ℕ
+between c = 44 ∷ c ∷ 44 ∷ []
+
+-- line number, letter, status
+unfoldable pub head-text : ℕ → ℕ → ℕ → List ℕ
+head-text number letter status = decimal number ++ (between letter ++ decimal status)
+
+-- decided, group
+unfoldable pub middle-text : Bool → ℕ → List ℕ
+middle-text decided group = between (flag-text decided) ++ group-text group
+
+-- stores, bytes, line feed
+unfoldable pub tail-text : ℕ → List ℕ → List ℕ
+tail-text stores bytes = (44 ∷ []) ++ (decimal stores ++ ((44 ∷ []) ++ (bytes-text bytes ++ 10 ∷ [])))

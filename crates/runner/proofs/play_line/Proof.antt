@@ -1,0 +1,43 @@
+-- `play_line` meets its contract: the line is taken apart and played.
+use denote.Ref.{now}
+use Rattle.runner.proofs.Pieces.{stepped}
+use borrow.Author.Needs.{needs}
+use Rattle.runner.proofs.play_line.Statement.{statement}
+use Rattle.runner.proofs.play_line.Tie as tie
+
+take-apart-requires : tie.Need-take-apart-requires
+take-apart-requires c κs = search needs
+
+add-number : tie.Need-add-number
+add-number c = search needs
+
+play-requires : tie.Need-play-requires
+play-requires c κs = search needs
+
+same-length : tie.Need-same-length
+same-length c = search needs
+
+same-length-2 : tie.Need-same-length-2
+same-length-2 c = search needs
+
+same-length-3 : tie.Need-same-length-3
+same-length-3 c = search needs
+
+returns : tie.Need-returns
+returns c =
+    let played = c .before .before .before .before .before in
+    let taken = played .before .before .before .before .before .before .before .before in
+    let args = c .before .before .before .before .before .before .before .before .before .before .before .before .before .before .before .before .before .before .before .args in
+    stepped (args .run) (args .area .now) (now (args .line)) _ (taken .take-apart .ensures .0) (played .play .ensures)
+
+pub play-line-spec : {M : Type 1} → statement M
+play-line-spec =
+    tie.close
+    (tie.spec
+    take-apart-requires
+    add-number
+    play-requires
+    same-length
+    same-length-2
+    same-length-3
+    returns)

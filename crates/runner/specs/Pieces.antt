@@ -1,0 +1,49 @@
+-- An input that is read piece by piece: what its lines give, and what is still to come.
+use Prim.Native.Nat.{ℕ, _+_, _-_, _≤_, _<_}
+use mathlib.Core.Path.{_≡_}
+use mathlib.Core.List.{List, [], _++_}
+use lib.ListN.{length, take, drop}
+use Rattle.text.specs.Fields.{until}
+use Rattle.text.specs.Whole.{Run as Whole, lines, line-feed, line-text, next-run, output-from}
+use Rattle.printing.specs.Append.{Appends}
+use Rattle.player.specs.Turned.{player-of, area-size, line-room}
+use Rattle.runner.specs.declared.Run.{Run}
+use Rattle.runner.specs.declared.Stepped.{Stepped}
+use Rattle.runner.specs.declared.Progress.{Progress}
+
+-- the run of the definitions that the code's run and the area are
+abbrev pub run-of : Run → List ℕ → Whole
+run-of r area = record { played = r .played; player = player-of (r .session) area }
+
+-- the area has room for the largest image, and the image is no larger
+pub record Fits (r : Run) (area : List ℕ) : Type 0 where
+  pub room : area-size ≤ length area
+  pub fits : r .session .length ≤ area-size
+
+-- no line feed in a text
+abbrev pub Unbroken : List ℕ → Type 0
+Unbroken s = length (until line-feed s) ≡ length s
+
+-- one line played
+pub record Steps (w : Whole) (line : List ℕ) (at : ℕ) (before : List ℕ) (r : Stepped) (area after : List ℕ) : Type 0 where
+  pub text : Appends (line-text w line) at before (r .at) after
+  pub room : r .at ≤ at + line-room
+  pub next : run-of (r .run) area ≡ next-run w line
+  pub fits : r .run .session .length ≤ area-size
+
+-- The run w became v by the lines of a piece up to `read`, and their output stands in `out` up to `written`: whatever
+-- follows the piece, what is still to be written is what the rest gives.
+abbrev pub Output : Whole → List ℕ → Whole → ℕ → ℕ → List ℕ → Type 0
+Output w piece v read written out = (more : List ℕ) →
+    output-from w (lines (piece ++ more)) ≡ take written out ++ output-from v (lines (drop read piece ++ more))
+
+pub record Progresses (w : Whole) (piece : List ℕ) (r : Progress) (area out : List ℕ) : Type 0 where
+  pub output : Output w piece (run-of (r .run) area) (r .read) (r .written) out
+  pub read : r .read ≤ length piece
+  pub written : r .written ≤ length out
+  pub fits : r .run .session .length ≤ area-size
+
+-- the kept characters of a line that is not finished stand for all of it
+abbrev pub Stands-for : List ℕ → List ℕ → Type 0
+Stands-for kept rest = Unbroken rest → (w : Whole) (more : List ℕ) →
+    output-from w (lines (rest ++ more)) ≡ output-from w (lines (kept ++ more))

@@ -1,0 +1,116 @@
+-- A line taken apart (document 01, "Event lines and `rsmrun`").
+use Prim.Native.Nat.{ℕ, zero, suc}
+use mathlib.Core.Bool.{Bool, _&&_, cond}
+use mathlib.Core.List.{List, [], _∷_}
+use lib.Dec.{eqb, leb}
+use lib.ListN.{length, getD, take}
+use Rattle.protocol.specs.Lists.{any}
+use Rattle.protocol.specs.Calls.{Call, Read, Write, Start, Acknowledge, Fault, Power-up}
+use Rattle.protocol.specs.declared.Shape.{Shape}
+use Rattle.text.specs.Fields.{codes, field, commas, number-of, pairs, decoded}
+use Rattle.text.specs.declared.Number.{Number}
+use Rattle.text.specs.declared.Number.the-variants.{Value, Invalid}
+use Rattle.text.specs.declared.Parsed.{Parsed}
+use Rattle.text.specs.declared.Parsed.the-variants as parsed
+
+-- What a line asks for: a format, a call (whose budget the player sets), the allowance of the next line; or it
+-- can't be taken apart.
+pub data Event : Type 0 where
+  Format : Shape → Event
+  Make : Call → Event
+  Allow : ℕ → Event
+  Unreadable : Event
+
+-- the letters, and the commas of each
+unfoldable pub letters : List ℕ
+letters = codes "FRWCAXUZ"
+
+unfoldable pub due : List ℕ
+due = 4 ∷ 3 ∷ 3 ∷ 2 ∷ 2 ∷ 1 ∷ 0 ∷ 1 ∷ []
+
+unfoldable pub listed : ℕ → ℕ → Bool
+listed c n = any 8 (λ i. eqb (getD letters i 0) c && eqb (getD due i 0) n)
+
+-- at most 160 characters, of which the first is a letter with its count of commas and stands alone in its field
+unfoldable pub well-parted : List ℕ → Bool
+well-parted s = leb (length s) 160 && (eqb (length (field 0 s)) 1 && listed (getD s 0 0) (commas s))
+
+-- what follows if a field is a number; if it is pairs of hexadecimal digits
+unfoldable pub with-number : Number → (ℕ → Event) → Event
+with-number (Value n) f = f n
+with-number Invalid f = Unreadable
+
+unfoldable pub with-bytes : List ℕ → (List ℕ → Event) → Event
+with-bytes s f = cond (pairs s) (f (decoded s)) Unreadable
+
+abbrev pub number-at : ℕ → List ℕ → (ℕ → Event) → Event
+number-at i s f = with-number (number-of (field i s)) f
+
+abbrev pub bytes-at : ℕ → List ℕ → (List ℕ → Event) → Event
+bytes-at i s f = with-bytes (field i s) f
+
+-- a read is answered in a buffer of as many bytes as the largest block has
+abbrev pub room : ℕ
+room = 64
+
+-- the fields that follow each letter
+unfoldable pub format-of : List ℕ → Event
+format-of s =
+    number-at 1 s (λ p. number-at 2 s (λ size. number-at 3 s (λ b. number-at 4 s (λ k.
+    Format (record { boards = p; size = size; blocks = b; context = k })))))
+
+unfoldable pub read-of : List ℕ → Event
+read-of s = number-at 1 s (λ i. number-at 2 s (λ a. number-at 3 s (λ n. Make (Read i a n room))))
+
+unfoldable pub write-of : List ℕ → Event
+write-of s = number-at 1 s (λ i. number-at 2 s (λ a. bytes-at 3 s (λ bytes. Make (Write i a bytes 0))))
+
+unfoldable pub start-of : List ℕ → Event
+start-of s = number-at 1 s (λ i. bytes-at 2 s (λ bytes. Make (Start i bytes 0)))
+
+unfoldable pub acknowledge-of : List ℕ → Event
+acknowledge-of s = number-at 1 s (λ i. bytes-at 2 s (λ bytes. Make (Acknowledge i bytes 0)))
+
+unfoldable pub fault-of : List ℕ → Event
+fault-of s = number-at 1 s (λ i. Make (Fault i 0))
+
+unfoldable pub allow-of : List ℕ → Event
+allow-of s = number-at 1 s (λ k. Allow k)
+
+-- the letter chooses
+unfoldable pub by-letter : ℕ → List ℕ → Event
+by-letter c s =
+    cond (eqb c 70) (format-of s)
+    (cond (eqb c 82) (read-of s)
+    (cond (eqb c 87) (write-of s)
+    (cond (eqb c 67) (start-of s)
+    (cond (eqb c 65) (acknowledge-of s)
+    (cond (eqb c 88) (fault-of s)
+    (cond (eqb c 85) (Make (Power-up 0)) (allow-of s)))))))
+
+unfoldable pub taken : List ℕ → Event
+taken s = let event = by-letter (getD s 0 0) s in cond (well-parted s) event Unreadable
+
+-- what the code's answer means, with the bytes in its buffer
+unfoldable pub meant : Parsed → List ℕ → Event
+meant (parsed.Format s) b = Format s
+meant (parsed.Read i a n) b = Make (Read i a n room)
+meant (parsed.Write i a n) b = Make (Write i a (take n b) 0)
+meant (parsed.Start i n) b = Make (Start i (take n b) 0)
+meant (parsed.Acknowledge i n) b = Make (Acknowledge i (take n b) 0)
+meant (parsed.Fault i) b = Make (Fault i 0)
+meant parsed.PowerUp b = Make (Power-up 0)
+meant (parsed.Allow k) b = Allow k
+meant parsed.Unreadable b = Unreadable
+
+-- how many bytes of the buffer the code's answer counts on
+unfoldable pub counted : Parsed → ℕ
+counted (parsed.Format s) = 0
+counted (parsed.Read i a n) = 0
+counted (parsed.Write i a n) = n
+counted (parsed.Start i n) = n
+counted (parsed.Acknowledge i n) = n
+counted (parsed.Fault i) = 0
+counted parsed.PowerUp = 0
+counted (parsed.Allow k) = 0
+counted parsed.Unreadable = 0

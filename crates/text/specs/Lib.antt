@@ -1,0 +1,6 @@
+pub mod Fields
+pub mod Events
+pub mod Rows
+pub mod Turns
+pub mod Whole
+pub mod Example

@@ -1,0 +1,50 @@
+-- Output lines (document 01, "Output fields").
+use Prim.Native.Nat.{ℕ, zero, suc, _+_, _/_, _%_}
+use mathlib.Core.Bool.{Bool, cond}
+use mathlib.Core.List.{List, [], _∷_, _++_}
+use lib.Dec.{ltb, leb}
+use Rattle.protocol.specs.declared.Answer.{Answer}
+
+-- the letter of a line, what was answered, and the bytes read
+pub record Row : Type 0 where
+  pub letter : ℕ
+  pub answer : Answer
+  pub bytes : List ℕ
+
+-- a decimal digit, where the number is not smaller than its place
+unfoldable pub digit-at : ℕ → ℕ → List ℕ
+digit-at place n = cond (leb place n) ((48 + n / place % 10) ∷ []) []
+
+-- a number up to 99,999 in decimal
+unfoldable pub decimal : ℕ → List ℕ
+decimal n = digit-at 10000 n ++ (digit-at 1000 n ++ (digit-at 100 n ++ (digit-at 10 n ++ (48 + n % 10) ∷ [])))
+
+-- a hexadecimal digit, in capitals; a byte; four digits
+unfoldable pub hexadecimal : ℕ → ℕ
+hexadecimal d = cond (ltb d 10) (48 + d) (55 + d)
+
+unfoldable pub byte-text : ℕ → List ℕ
+byte-text b = hexadecimal (b / 16) ∷ hexadecimal (b % 16) ∷ []
+
+unfoldable pub bytes-text : List ℕ → List ℕ
+bytes-text [] = []
+bytes-text (b ∷ bs) = byte-text b ++ bytes-text bs
+
+unfoldable pub group-text : ℕ → List ℕ
+group-text g = byte-text (g / 256) ++ byte-text (g % 256)
+
+unfoldable pub flag-text : Bool → ℕ
+flag-text b = cond b 49 48
+
+-- line number, letter, status, decided, group, stores, bytes, parted by commas; a line feed
+unfoldable pub row-text : ℕ → Row → List ℕ
+row-text n r =
+    let a = r .answer in
+    decimal n
+    ++ (44 ∷ r .letter ∷ 44 ∷ decimal (a .status)
+    ++ (44 ∷ flag-text (a .decided) ∷ 44 ∷ group-text (a .group)
+    ++ (44 ∷ decimal (a .stores) ++ (44 ∷ bytes-text (r .bytes) ++ 10 ∷ []))))
+
+unfoldable pub rows-text : ℕ → List Row → List ℕ
+rows-text n [] = []
+rows-text n (r ∷ rs) = row-text n r ++ rows-text n rs

@@ -1,0 +1,84 @@
+-- An event played on image, record and pending allowance (document 01, "Event lines and `rsmrun`").
+use Prim.Native.Nat.{ℕ}
+use mathlib.Core.Bool.{Bool, true, false, cond}
+use mathlib.Core.List.{List, [], _∷_}
+use mathlib.Core.Logic.{_≢_}
+use lib.Dec.{eqb}
+use lib.ListN.{replicate}
+use Rattle.protocol.specs.Image.{allowed, total}
+use Rattle.protocol.specs.Volatile.{off}
+use Rattle.protocol.specs.Calls.{Call, Read, Write, Start, Acknowledge, Fault, Power-up, Outcome, perform, format}
+use Rattle.protocol.specs.declared.Shape.{Shape}
+use Rattle.protocol.specs.declared.Record.{Record}
+use Rattle.protocol.specs.declared.Answer.{Answer}
+use Rattle.text.specs.Events.{Event, Format, Make, Allow, Unreadable}
+use Rattle.text.specs.Rows.{Row}
+
+-- k is the allowance of the next line
+pub record Player : Type 0 where
+  pub image : List ℕ
+  pub state : Record
+  pub k : ℕ
+
+-- an allowance that no call uses up: the longest has 35,853 stores
+abbrev pub uncut : ℕ
+uncut = 65535
+
+-- before the first F the image is empty, the record off
+abbrev pub unformatted : Player
+unformatted = record { image = []; state = off; k = uncut }
+
+-- what a line gives: its output, and the player for the next line
+pub record Turn : Type 0 where
+  pub rows : List Row
+  pub next : Player
+
+abbrev pub row : ℕ → Outcome → Row
+row letter o = record { letter = letter; answer = o .reply .answer; bytes = o .bytes }
+
+abbrev pub moved : Outcome → Player
+moved o = record { image = o .image; state = o .reply .next; k = uncut }
+
+-- after a cut the program powers up, uncut, and prints that too
+unfoldable pub ended : ℕ → Outcome → Turn
+ended letter o =
+    let u = perform (o .image) (o .reply .next) (Power-up uncut) in
+    cond (eqb (o .reply .answer .status) 9)
+    (record { rows = row letter o ∷ row 85 u ∷ []; next = moved u })
+    (record { rows = row letter o ∷ []; next = moved o })
+
+-- a line that makes no call: 0 for Z, 6 for one that can't be taken apart
+abbrev pub told : ℕ → ℕ → Player → Turn
+told letter status next =
+    let answer : Answer = record { status = status; decided = false; group = 0; stores = 0 } in
+    record { rows = record { letter = letter; answer = answer; bytes = [] } ∷ []; next = next }
+
+unfoldable pub letter-of : Call → ℕ
+letter-of (Read board cell n room) = 82
+letter-of (Write board cell bytes k) = 87
+letter-of (Start board context k) = 67
+letter-of (Acknowledge board context k) = 65
+letter-of (Fault board k) = 88
+letter-of (Power-up k) = 85
+
+unfoldable pub with-budget : ℕ → Call → Call
+with-budget k (Read board cell n room) = Read board cell n room
+with-budget k (Write board cell bytes _) = Write board cell bytes k
+with-budget k (Start board context _) = Start board context k
+with-budget k (Acknowledge board context _) = Acknowledge board context k
+with-budget k (Fault board _) = Fault board k
+with-budget k (Power-up _) = Power-up k
+
+-- an F within the limits first makes the image that length, all zero
+unfoldable pub play : Player → Event → Turn
+play p (Format s) =
+    let image = cond (allowed s) (replicate (total s) 0) (p .image) in
+    ended 70 (format s image (p .state) (p .k))
+play p (Make call) = ended (letter-of call) (perform (p .image) (p .state) (with-budget (p .k) call))
+play p (Allow k) = told 90 0 (record { image = p .image; state = p .state; k = k })
+play p Unreadable = told 63 6 (record { image = p .image; state = p .state; k = uncut })
+
+-- without a Z before it no line is cut
+pub record Nothing-cut : Type 0 where
+  pub calls : (image : List ℕ) (r : Record) (call : Call) → perform image r (with-budget uncut call) .reply .answer .status ≢ 9
+  pub formats : (s : Shape) (image : List ℕ) (r : Record) → format s image r uncut .reply .answer .status ≢ 9

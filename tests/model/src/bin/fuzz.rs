@@ -1,0 +1,152 @@
+//! `fuzz RSMRUN COUNT SEED` compares a program with the model on generated
+//! files and checks the ledger on each. The script `tests/fuzz` calls it.
+use model::{check, generate, player, random::Random};
+use std::fs::{self, File};
+use std::io::{self, Read};
+use std::path::Path;
+use std::process::{Command, ExitCode, Stdio};
+use std::sync::mpsc;
+use std::time::Duration;
+use std::{env, thread};
+
+/// No file may take the program longer.
+const PATIENCE: Duration = Duration::from_secs(30);
+
+fn main() -> ExitCode {
+    let arguments: Vec<String> = env::args().skip(1).collect();
+    let (program, count, seed): (&str, u64, u64) = match &arguments[..] {
+        [program, count, seed] => match (count.parse(), seed.parse()) {
+            (Ok(count), Ok(seed)) => (program, count, seed),
+            _ => return usage(),
+        },
+        _ => return usage(),
+    };
+    let folder = env::temp_dir().join(format!("rsm_fuzz_{}", std::process::id()));
+    match compare(program, count, seed, &folder) {
+        Ok(lines) => {
+            let _ = fs::remove_dir_all(&folder);
+            println!("{count} files, {lines} lines: no difference");
+            ExitCode::SUCCESS
+        }
+        Err(difference) => {
+            println!("{difference}");
+            ExitCode::FAILURE
+        }
+    }
+}
+
+fn usage() -> ExitCode {
+    eprintln!("use: fuzz RSMRUN COUNT SEED");
+    ExitCode::from(2)
+}
+
+/// The lines played, or the first difference.
+fn compare(program: &str, count: u64, seed: u64, folder: &Path) -> Result<u64, String> {
+    let failed = |error: io::Error| format!("{}: {error}", folder.display());
+    fs::create_dir_all(folder).map_err(failed)?;
+    let mut lines = 0;
+    for i in 0..count {
+        let file_seed = seed.wrapping_mul(1_000_003).wrapping_add(i);
+        let events = match i {
+            // Once: more lines than the program may play, the last one cut.
+            0 => too_many_lines(),
+            _ => generate::events(file_seed, Random::new(!file_seed).within(30, 400)),
+        };
+        let expected = player::answers(&events);
+        let ledger = check::file(&events);
+        let name = folder.join("file.events");
+        fs::write(&name, &events).map_err(failed)?;
+        let got = answers_of(program, &name).map_err(|what| {
+            format!(
+                "file {i}: {program} {what}; events kept in {}",
+                name.display()
+            )
+        })?;
+        if got != expected {
+            fs::write(folder.join("file.expected"), &expected).map_err(failed)?;
+            fs::write(folder.join("file.got"), &got).map_err(failed)?;
+            return Err(format!(
+                "file {i}, kept with both answers in {}\n{}",
+                folder.display(),
+                first_difference(&events, &expected, &got)
+            ));
+        }
+        match ledger {
+            Ok(played) => lines += u64::from(played),
+            Err(what) => {
+                return Err(format!(
+                    "file {i}, kept as {}: ledger: {what}",
+                    name.display()
+                ))
+            }
+        }
+    }
+    Ok(lines)
+}
+
+/// 100,001 lines; the fault, line 99,999, is cut.
+fn too_many_lines() -> Vec<u8> {
+    let mut events = b"F,2,1,2,1\nW,0,0,07\n".to_vec();
+    events.extend(b"U\nW,0,1,01\n".repeat(49_996));
+    events.extend(b"U\nW,0,1,05\nW,1,0,06\nZ,1\nX,0\nU\nR,0,0,1\n");
+    events
+}
+
+/// Plays a file by the program; its output is read in a thread so that a
+/// program that does not end can be given up.
+fn answers_of(program: &str, events: &Path) -> Result<Vec<u8>, String> {
+    let failed = |error: io::Error| error.to_string();
+    let mut child = Command::new(program)
+        .stdin(Stdio::from(File::open(events).map_err(failed)?))
+        .stdout(Stdio::piped())
+        .spawn()
+        .map_err(failed)?;
+    let mut output = child.stdout.take().ok_or("has no output")?;
+    let (sender, receiver) = mpsc::channel();
+    thread::spawn(move || {
+        let mut bytes = Vec::new();
+        let result = output.read_to_end(&mut bytes).map(|_| bytes);
+        let _ = sender.send(result);
+    });
+    let Ok(result) = receiver.recv_timeout(PATIENCE) else {
+        child.kill().map_err(failed)?;
+        child.wait().map_err(failed)?;
+        return Err(format!("did not end within {PATIENCE:?}"));
+    };
+    let status = child.wait().map_err(failed)?;
+    if !status.success() {
+        return Err(format!("ended with {status}"));
+    }
+    result.map_err(failed)
+}
+
+/// The first answers that differ and the event line that they answer.
+fn first_difference(events: &[u8], expected: &[u8], got: &[u8]) -> String {
+    let mut expected_lines = expected.split_inclusive(|byte| *byte == b'\n');
+    let mut got_lines = got.split_inclusive(|byte| *byte == b'\n');
+    loop {
+        let (expected, got) = (expected_lines.next(), got_lines.next());
+        if expected == got && expected.is_some() {
+            continue;
+        }
+        let number = expected.or(got).and_then(line_number).unwrap_or(0);
+        let event = events
+            .split(|byte| *byte == b'\n')
+            .nth(number.max(1) - 1)
+            .unwrap_or(&[]);
+        let show = |line: Option<&[u8]>| {
+            line.map_or("(nothing)".into(), |line| line.escape_ascii().to_string())
+        };
+        return format!(
+            "line {number}: {}\nexpected {}\ngot      {}",
+            event.escape_ascii(),
+            show(expected),
+            show(got)
+        );
+    }
+}
+
+fn line_number(answer: &[u8]) -> Option<usize> {
+    let digits = answer.split(|byte| *byte == b',').next()?;
+    std::str::from_utf8(digits).ok()?.parse().ok()
+}

@@ -1,0 +1,13 @@
+//! The independent test side: a plain model of `rsmrun`, the ledger, the
+//! generators of event files. Written from document 01 alone.
+#![forbid(unsafe_code)]
+
+pub mod check;
+pub mod generate;
+pub mod ledger;
+pub mod lines;
+pub mod mixes;
+pub mod module;
+pub mod player;
+pub mod random;
+pub mod replay;

@@ -1,0 +1,222 @@
+//! The ledger check can fail: each test plays a good history and then hands
+//! the checker one wrong answer or one wrong byte.
+use model::check::Checker;
+use model::ledger::{Call, Ledger, Told};
+use model::lines::{self, Event};
+use model::module::{Answer, UNCUT};
+use model::player::{Played, Player};
+
+/// Plays the lines and hands all but the last to a checker; gives what is
+/// needed to hand it the last one, perhaps spoilt.
+fn history(text: &str) -> (Checker, Player, Played, Vec<u8>) {
+    let mut player = Player::default();
+    let mut checker = Checker::default();
+    let lines: Vec<&str> = text.split_ascii_whitespace().collect();
+    for (i, line) in lines.iter().enumerate() {
+        let mut room = [0; 80];
+        let event = lines::parse(line.as_bytes(), &mut room).unwrap();
+        let played = player.play(Some(&event));
+        if i + 1 == lines.len() {
+            return (checker, player, played, line.as_bytes().to_vec());
+        }
+        let bytes = player.bytes().to_vec();
+        checker
+            .line(
+                &event,
+                played.k,
+                &played.answer,
+                &bytes,
+                played.power_up.as_ref(),
+                &player.image,
+            )
+            .unwrap();
+    }
+    panic!("no lines");
+}
+
+/// The checker's word on the last line after `spoil` had its way.
+fn last(text: &str, spoil: impl Fn(&mut Player, &mut Played, &mut Vec<u8>)) -> Result<(), String> {
+    let (mut checker, mut player, mut played, line) = history(text);
+    let mut room = [0; 80];
+    let event: Event = lines::parse(&line, &mut room).unwrap();
+    let mut bytes = player.bytes().to_vec();
+    spoil(&mut player, &mut played, &mut bytes);
+    checker.line(
+        &event,
+        played.k,
+        &played.answer,
+        &bytes,
+        played.power_up.as_ref(),
+        &player.image,
+    )
+}
+
+fn fails(text: &str, what: &str, spoil: impl Fn(&mut Player, &mut Played, &mut Vec<u8>)) {
+    assert_eq!(last(text, |_, _, _| ()), Ok(()), "the history itself");
+    let word = last(text, spoil).expect_err("the spoilt answer must be seen");
+    assert!(word.contains(what), "{word}");
+}
+
+// Board 1 depends on 0, board 2 on 1.
+const CHAIN: &str = "F,3,2,4,1 W,0,0,0102 R,1,0,1 W,1,2,0304 R,2,2,1 W,2,4,0506 ";
+
+#[test]
+fn wrong_group_of_a_fault() {
+    fails(&format!("{CHAIN} X,1"), "group", |_, played, _| {
+        played.answer.group = 0x0003
+    });
+}
+
+#[test]
+fn wrong_members_of_a_start() {
+    fails(&format!("{CHAIN} C,1,AA"), "group", |_, played, _| {
+        played.answer.group = 0x0006
+    });
+}
+
+#[test]
+fn wrong_decision() {
+    fails(
+        &format!("{CHAIN} C,1,AA A,0,BB"),
+        "decided",
+        |_, played, _| played.answer.decided = false,
+    );
+    fails(&format!("{CHAIN} C,1,AA"), "decided", |_, played, _| {
+        played.answer.decided = true
+    });
+    fails(
+        &format!("{CHAIN} C,1,AA Z,4 A,0,BB"),
+        "decided",
+        |_, played, _| played.answer.decided = false,
+    );
+}
+
+#[test]
+fn wrong_byte_read() {
+    fails(&format!("{CHAIN} R,0,0,2"), "read", |_, _, bytes| {
+        bytes[1] ^= 1
+    });
+}
+
+#[test]
+fn wrong_cell() {
+    // The first current byte follows header and 4 tags.
+    fails(&format!("{CHAIN} X,0"), "cell 0", |player, _, _| {
+        player.image[16] = 1
+    });
+    fails(&format!("{CHAIN} U"), "cell 3", |player, _, _| {
+        player.image[19] = 4
+    });
+}
+
+#[test]
+fn wrong_context() {
+    // Recovery contexts: the last three bytes.
+    fails(
+        &format!("{CHAIN} C,0,AA"),
+        "context of board 0",
+        |player, _, _| {
+            let at = player.image.len() - 3;
+            player.image[at] = 0;
+        },
+    );
+}
+
+#[test]
+fn refused_power_up() {
+    fails(
+        &format!("{CHAIN} U"),
+        "power-up was refused",
+        |_, played, _| played.answer = Answer::refused(11),
+    );
+    fails(
+        &format!("{CHAIN} Z,1 X,0"),
+        "power-up was refused",
+        |_, played, _| {
+            played.power_up = Some(Answer::refused(11));
+        },
+    );
+}
+
+#[test]
+fn cut_told_as_done() {
+    // A write said to be done whose bytes were rolled back.
+    fails(
+        &format!("{CHAIN} Z,1 W,0,6,AAAA"),
+        "cell",
+        |_, played, _| {
+            played.answer.code = 0;
+            played.power_up = None;
+        },
+    );
+}
+
+#[test]
+fn read_that_outlives_its_write() {
+    // What refusal 13 prevents: a member of an open commit reads a pending
+    // write of board 0 and is kept, then board 0 faults.
+    let mut ledger = Ledger::new(3, 1, 3, 0);
+    let mut done = |call| ledger.tell(call, UNCUT, Told::Done);
+    done(Call::Write {
+        board: 2,
+        cell: 2,
+        bytes: &[5],
+    })
+    .unwrap();
+    done(Call::Read {
+        board: 1,
+        cell: 2,
+        n: 1,
+    })
+    .unwrap();
+    assert_eq!(
+        done(Call::Start {
+            board: 1,
+            context: &[]
+        })
+        .unwrap()
+        .group,
+        0b110
+    );
+    done(Call::Write {
+        board: 0,
+        cell: 0,
+        bytes: &[7],
+    })
+    .unwrap();
+    assert_eq!(
+        done(Call::Read {
+            board: 1,
+            cell: 0,
+            n: 1
+        })
+        .unwrap()
+        .bytes,
+        [7]
+    );
+    assert!(
+        done(Call::Acknowledge {
+            board: 2,
+            context: &[]
+        })
+        .unwrap()
+        .decided
+    );
+    let word = done(Call::Fault { board: 0 }).expect_err("the kept read must be seen");
+    assert!(word.contains("a read of board 1 is Kept"), "{word}");
+}
+
+#[test]
+fn acknowledgement_without_a_commit() {
+    let mut ledger = Ledger::new(2, 1, 2, 0);
+    assert!(ledger
+        .tell(
+            Call::Acknowledge {
+                board: 1,
+                context: &[]
+            },
+            UNCUT,
+            Told::Done
+        )
+        .is_err());
+}
