@@ -64,7 +64,8 @@ fn copy_block(image: &mut [u8], s: Shape, g: u16, save: bool, b: usize, k: Budge
 // The first block from b on that has an active writer, or B.
 fn next_tagged(image: &[u8], s: Shape, b: usize) -> usize
     requires { ⌜ (allowed s ≡ true) × (length (now image) ≡ total s) × (b ≤ s .blocks) ⌝ }
-    ensures { λ r. ⌜ (b ≤ r) × (r ≤ s .blocks) × ((j : ℕ) → b ≤ j → j < r → getD (now (image .entry)) (12 + j) 0 ≡ 0) ⌝ }
+    ensures { λ r. ⌜ (b ≤ r) × (r ≤ s .blocks)
+        × ((j : ℕ) → b ≤ j → j < r → getD (now (image .entry)) (12 + j) 0 ≡ 0) ⌝ }
 {
     let mut i = b;
     while i < s.blocks {

@@ -1,7 +1,7 @@
 -- From a call and its rows to a turn of the player.
 use Prim.Native.Nat.{ℕ, _+_, _-_, _≤_}
 use mathlib.Core.Path.{_≡_, refl, sym, _∙_, ap, subst}
-use mathlib.Core.Bool.{true, false, cond}
+use mathlib.Core.Bool.{Bool, true, false, cond}
 use mathlib.Core.List.{List, [], _∷_, _++_, append-nil}
 use mathlib.Core.Logic.{_≢_}
 use native.Mathlib.Omega.{arith}
@@ -10,7 +10,7 @@ use lib.Dec.{eqb}
 use lib.ListN.{length, take, drop, replicate, length-replicate, length-append}
 use lib.Seq.{length-take-le}
 use borrow.Author.Tests.{eq-eqb, ne-eqb}
-use Rattle.protocol.specs.Calls.{Outcome, Call, Read, Power-up, perform, plan, format}
+use Rattle.protocol.specs.Calls.{Outcome, Call, Read, Write, Start, Acknowledge, Fault, Power-up, perform, plan, acknowledging, format}
 use Rattle.protocol.specs.declared.Shape.{Shape}
 use Rattle.protocol.specs.declared.Record.{Record}
 use Rattle.protocol.specs.declared.Reply.{Reply}
@@ -20,7 +20,7 @@ use Rattle.text.specs.Rows.{Row, row-text, rows-text}
 use Rattle.text.specs.Turns.{Player, row, moved, uncut, ended, told}
 use Rattle.printing.specs.Append.{Appends}
 use Rattle.printing.proofs.Laws.{appends-then}
-use Rattle.player.specs.Turned.{player-of, Turns, Powered, area-size, line-room}
+use Rattle.player.specs.Turned.{call-of, player-of, Turns, Powered, area-size, line-room}
 use Rattle.player.specs.declared.Turned.{Turned}
 use Rattle.player.proofs.Laws.{lent-image, outcome-of, no-bytes, perform-length, format-length, format-none, read-image, bytes-answered}
 
@@ -173,3 +173,27 @@ formatted-anew s area size k state {one} {two} {reply} l z f =
     let g = formatted-lent s (left size area one) size k state (omega (arith, length-append one (drop (size - 0) (drop 0 area)), long)) f in
     subst (λ (x : List ℕ). Formatted s x state k reply (take size (left size (left size area one) two)))
     (sym (ap (λ (m : ℕ). take m (left size area one)) (sub-zero size)) ∙ same) g
+
+-- ---- the call of a letter
+
+-- it answers no bytes
+pub quiet : (letter i a : ℕ) (bytes : List ℕ) (k : ℕ) (image : List ℕ) (r : Record) →
+    [] ≡ perform image r (call-of letter i a bytes k) .bytes
+unfolding call-of plan acknowledging
+quiet letter i a bytes k image r =
+    step (eqb letter 87) (eqb letter 67) (eqb letter 65) (eqb letter 88)
+  where
+    Silent : Call → Type 0
+    Silent call = [] ≡ perform image r call .bytes
+
+    either : (b : Bool) (x y : Call) → Silent x → Silent y → Silent (cond b x y)
+    either true x y p q = p
+    either false x y p q = q
+
+    step : (w c d x : Bool) →
+        Silent (cond w (Write i a bytes k) (cond c (Start i bytes k) (cond d (Acknowledge i bytes k) (cond x (Fault i k) (Power-up k)))))
+    step w c d x =
+        either w _ _ (no-bytes image r (Write i a bytes k) refl)
+        (either c _ _ (no-bytes image r (Start i bytes k) refl)
+        (either d _ _ (no-bytes image r (Acknowledge i bytes k) refl)
+        (either x _ _ (no-bytes image r (Fault i k) refl) (no-bytes image r (Power-up k) refl))))

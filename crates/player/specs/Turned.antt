@@ -1,9 +1,11 @@
 -- The code's player: its image stands at the start of a larger area. What playing an event promises.
 use Prim.Native.Nat.{ℕ, _+_, _≤_}
 use mathlib.Core.Path.{_≡_}
+use mathlib.Core.Bool.{cond}
 use mathlib.Core.List.{List}
+use lib.Dec.{eqb}
 use lib.ListN.{length, take}
-use Rattle.protocol.specs.Calls.{Outcome}
+use Rattle.protocol.specs.Calls.{Outcome, Call, Write, Start, Acknowledge, Fault, Power-up}
 use Rattle.text.specs.Rows.{row-text, rows-text}
 use Rattle.text.specs.Turns.{Player, Turn, row, moved}
 use Rattle.printing.specs.Append.{Appends}
@@ -40,3 +42,10 @@ pub record Powered (o : Outcome) (size number at : ℕ) (before : List ℕ) (r :
   pub room : r .at ≤ at + 160
   pub next : player-of (r .next) area ≡ moved o
   pub same : r .next .length ≡ size
+
+-- the storing call of a letter, by its code: W 87, C 67, A 65, X 88, else U
+unfoldable pub call-of : ℕ → ℕ → ℕ → List ℕ → ℕ → Call
+call-of letter i a bytes k =
+    cond (eqb letter 87) (Write i a bytes k)
+    (cond (eqb letter 67) (Start i bytes k)
+    (cond (eqb letter 65) (Acknowledge i bytes k) (cond (eqb letter 88) (Fault i k) (Power-up k))))

@@ -24,8 +24,8 @@ ghost use Rattle.protocol.specs.declared.Record.{Record as State};
 ghost use Rattle.protocol.specs.Calls.{perform, Read, Write, Start, Acknowledge, Fault, Power-up};
 ghost use Rattle.text.specs.Events.{Format, Make, Allow, Unreadable, room, counted, meant};
 ghost use Rattle.text.specs.Turns.{ended, told, uncut, play};
-ghost use Rattle.answers.specs.Promise.{Formatted};
-ghost use Rattle.player.specs.Turned.{player-of, Ready, Turns, Powered};
+ghost use Rattle.answers.specs.Promise.{Formatted, Performed};
+ghost use Rattle.player.specs.Turned.{player-of, Ready, Turns, Powered, call-of};
 
 // More than any call stores.
 const UNCUT: usize = 65535;
@@ -79,9 +79,11 @@ fn end_turn(
     out: &mut [u8],
     at: usize,
 ) -> Turned
-    requires { ⌜ (size ≤ 35852) × (35852 ≤ length (now area)) × (length (now bytes) ≤ 64) × (at + 320 ≤ length (now out)) ⌝ }
-    ensures { λ r. ⌜ Turns (ended letter (record { reply = reply; image = take size (now (area .entry)); bytes = now (bytes .entry) }))
-        number at (now (out .entry)) r (now (area .exit)) (now (out .exit)) ⌝ }
+    requires { ⌜ (size ≤ 35852) × (35852 ≤ length (now area)) × (length (now bytes) ≤ 64)
+        × (at + 320 ≤ length (now out)) ⌝ }
+    ensures { λ r. ⌜ Turns
+        (ended letter (record { reply = reply; image = take size (now (area .entry)); bytes = now (bytes .entry) })) number at
+        (now (out .entry)) r (now (area .exit)) (now (out .exit)) ⌝ }
 {
     let answer = reply.answer;
     let state = reply.next;
@@ -109,8 +111,9 @@ fn tell(
     at: usize,
 ) -> Turned
     requires { ⌜ (p .length ≤ 35852) × (at + 320 ≤ length (now out)) ⌝ }
-    ensures { λ r. ⌜ ((area : List ℕ) → Turns (told letter status (record { image = take (p .length) area; state = p .state; k = k }))
-        number at (now (out .entry)) r area (now (out .exit))) ⌝ }
+    ensures { λ r. ⌜ ((area : List ℕ) →
+        Turns (told letter status (record { image = take (p .length) area; state = p .state; k = k })) number at
+        (now (out .entry)) r area (now (out .exit))) ⌝ }
 {
     let answer = Answer {
         status,
@@ -211,9 +214,39 @@ fn play_read(
     )
 }
 
-fn play_write(
+// The storing call of a letter: W, C, A, X, else U.
+fn store_call(
+    image: &mut [u8],
+    state: Record,
+    letter: u8,
+    board: usize,
+    cell: usize,
+    bytes: &[u8],
+    k: usize,
+) -> Reply
+    ensures { λ r. ⌜ Performed (call-of letter board cell (now (bytes .entry)) k) (now (image .entry)) state
+        r (now (image .exit)) ⌝ }
+{
+    if letter == b'W' {
+        return write(image, state, board, cell, bytes, k);
+    }
+    if letter == b'C' {
+        return start(image, state, board, bytes, k);
+    }
+    if letter == b'A' {
+        return acknowledge(image, state, board, bytes, k);
+    }
+    if letter == b'X' {
+        return fault(image, state, board, k);
+    }
+    power_up(image, k)
+}
+
+// A line that names a storing call.
+fn play_call(
     area: &mut [u8],
     p: Session,
+    letter: u8,
     board: usize,
     cell: usize,
     bytes: &[u8],
@@ -222,87 +255,14 @@ fn play_write(
     at: usize,
 ) -> Turned
     requires { ⌜ Ready p at (now area) (now out) ⌝ }
-    ensures { λ r. ⌜ Turns (play (player-of p (now (area .entry))) (Make (Write board cell (now (bytes .entry)) 0))) number at
+    ensures { λ r. ⌜ Turns (ended letter (perform (take (p .length) (now (area .entry))) (p .state)
+        (call-of letter board cell (now (bytes .entry)) (p .k)))) number at
         (now (out .entry)) r (now (area .exit)) (now (out .exit)) ⌝ }
 {
     let length = p.length;
     let state = p.state;
-    let reply = write(&mut area[0..length], state, board, cell, bytes, p.k);
-    end_turn(area, length, reply, b'W', &bytes[0..0], number, out, at)
-}
-
-fn play_start(
-    area: &mut [u8],
-    p: Session,
-    board: usize,
-    bytes: &[u8],
-    number: usize,
-    out: &mut [u8],
-    at: usize,
-) -> Turned
-    requires { ⌜ Ready p at (now area) (now out) ⌝ }
-    ensures { λ r. ⌜ Turns (play (player-of p (now (area .entry))) (Make (Start board (now (bytes .entry)) 0))) number at
-        (now (out .entry)) r (now (area .exit)) (now (out .exit)) ⌝ }
-{
-    let length = p.length;
-    let state = p.state;
-    let reply = start(&mut area[0..length], state, board, bytes, p.k);
-    end_turn(area, length, reply, b'C', &bytes[0..0], number, out, at)
-}
-
-fn play_acknowledge(
-    area: &mut [u8],
-    p: Session,
-    board: usize,
-    bytes: &[u8],
-    number: usize,
-    out: &mut [u8],
-    at: usize,
-) -> Turned
-    requires { ⌜ Ready p at (now area) (now out) ⌝ }
-    ensures { λ r. ⌜ Turns (play (player-of p (now (area .entry))) (Make (Acknowledge board (now (bytes .entry)) 0))) number at
-        (now (out .entry)) r (now (area .exit)) (now (out .exit)) ⌝ }
-{
-    let length = p.length;
-    let state = p.state;
-    let reply = acknowledge(&mut area[0..length], state, board, bytes, p.k);
-    end_turn(area, length, reply, b'A', &bytes[0..0], number, out, at)
-}
-
-fn play_fault(
-    area: &mut [u8],
-    p: Session,
-    board: usize,
-    none: &[u8],
-    number: usize,
-    out: &mut [u8],
-    at: usize,
-) -> Turned
-    requires { ⌜ Ready p at (now area) (now out) ⌝ }
-    ensures { λ r. ⌜ Turns (play (player-of p (now (area .entry))) (Make (Fault board 0))) number at
-        (now (out .entry)) r (now (area .exit)) (now (out .exit)) ⌝ }
-{
-    let length = p.length;
-    let state = p.state;
-    let reply = fault(&mut area[0..length], state, board, p.k);
-    end_turn(area, length, reply, b'X', &none[0..0], number, out, at)
-}
-
-fn play_power_up(
-    area: &mut [u8],
-    p: Session,
-    none: &[u8],
-    number: usize,
-    out: &mut [u8],
-    at: usize,
-) -> Turned
-    requires { ⌜ Ready p at (now area) (now out) ⌝ }
-    ensures { λ r. ⌜ Turns (play (player-of p (now (area .entry))) (Make (Power-up 0))) number at
-        (now (out .entry)) r (now (area .exit)) (now (out .exit)) ⌝ }
-{
-    let length = p.length;
-    let reply = power_up(&mut area[0..length], p.k);
-    end_turn(area, length, reply, b'U', &none[0..0], number, out, at)
+    let reply = store_call(&mut area[0..length], state, letter, board, cell, bytes, p.k);
+    end_turn(area, length, reply, letter, &bytes[0..0], number, out, at)
 }
 
 // Plays a line that was taken apart; its bytes stand at the start of the buffer.
@@ -323,16 +283,28 @@ pub fn play(
         Parsed::Format { shape } => play_format(area, p, shape, buffer, number, out, at),
         Parsed::Read { board, cell, n } => play_read(area, p, board, cell, n, number, out, at),
         Parsed::Write { board, cell, count } => {
-            play_write(area, p, board, cell, &buffer[0..count], number, out, at)
+            play_call(
+                area,
+                p,
+                b'W',
+                board,
+                cell,
+                &buffer[0..count],
+                number,
+                out,
+                at,
+            )
         }
         Parsed::Start { board, count } => {
-            play_start(area, p, board, &buffer[0..count], number, out, at)
+            play_call(area, p, b'C', board, 0, &buffer[0..count], number, out, at)
         }
         Parsed::Acknowledge { board, count } => {
-            play_acknowledge(area, p, board, &buffer[0..count], number, out, at)
+            play_call(area, p, b'A', board, 0, &buffer[0..count], number, out, at)
         }
-        Parsed::Fault { board } => play_fault(area, p, board, buffer, number, out, at),
-        Parsed::PowerUp => play_power_up(area, p, buffer, number, out, at),
+        Parsed::Fault { board } => {
+            play_call(area, p, b'X', board, 0, &buffer[0..0], number, out, at)
+        }
+        Parsed::PowerUp => play_call(area, p, b'U', 0, 0, &buffer[0..0], number, out, at),
         Parsed::Allow { k } => tell(p, b'Z', 0, k, buffer, number, out, at),
         Parsed::Unreadable => tell(p, b'?', 6, UNCUT, buffer, number, out, at),
     }

@@ -9,12 +9,12 @@ use lib.Dec.{eqb, leb, ltb}
 use borrow.Author.Tests.{lt-leb}
 use lib.ListN.{length, take, drop, getD, length-append, length-take}
 use Rattle.protocol.proofs.Basics.{false-and, if-true, if-false}
-use Rattle.text.specs.Fields.{until, past}
+use Rattle.text.specs.Fields.{line-feed, until, past}
 use Rattle.runner.specs.Pieces.{Unbroken}
 use Rattle.text.specs.Events.{Event, taken, by-letter, well-parted, Unreadable}
 use Rattle.text.specs.Rows.{rows-text}
 use Rattle.text.specs.Turns.{play}
-use Rattle.text.specs.Whole.{lines, grown, line-feed, Run, output-from, line-text, next-run, most-lines}
+use Rattle.text.specs.Whole.{lines, grown, Run, output-from, line-text, next-run, most-lines}
 
 -- ---- lines
 

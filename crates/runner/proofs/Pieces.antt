@@ -11,10 +11,10 @@ use lib.Dec.{ltb}
 use lib.ListN.{length, take, drop, set, getD, length-take, length-drop, length-set}
 use lib.Seq.{take-all, take-take, drop-drop, take-suc, take-suc-set, drop-set-lt, getD-drop, length-take-le}
 use borrow.Author.Tests.{lt-ltb, le-ltb}
-use Rattle.text.specs.Fields.{until, past}
+use Rattle.text.specs.Fields.{line-feed, until, past}
 use Rattle.text.specs.Events.{Event, taken}
 use Rattle.text.specs.Turns.{play}
-use Rattle.text.specs.Whole.{Run as Whole, lines, line-feed, most-lines, line-text, next-run, output-from}
+use Rattle.text.specs.Whole.{Run as Whole, lines, most-lines, line-text, next-run, output-from}
 use Rattle.printing.specs.Append.{Appends}
 use Rattle.printing.proofs.Laws.{take-x, appends-length}
 use Rattle.fields.proofs.Laws.{take-until, drop-past}

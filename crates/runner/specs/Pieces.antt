@@ -3,8 +3,8 @@ use Prim.Native.Nat.{ℕ, _+_, _-_, _≤_, _<_}
 use mathlib.Core.Path.{_≡_}
 use mathlib.Core.List.{List, [], _++_}
 use lib.ListN.{length, take, drop}
-use Rattle.text.specs.Fields.{until}
-use Rattle.text.specs.Whole.{Run as Whole, lines, line-feed, line-text, next-run, output-from}
+use Rattle.text.specs.Fields.{line-feed, until}
+use Rattle.text.specs.Whole.{Run as Whole, lines, line-text, next-run, output-from}
 use Rattle.printing.specs.Append.{Appends}
 use Rattle.player.specs.Turned.{player-of, area-size, line-room}
 use Rattle.runner.specs.declared.Run.{Run}

@@ -60,7 +60,8 @@ fn play_line(
     out: &mut [u8],
     at: usize,
 ) -> Stepped
-    requires { ⌜ (Fits run (now area)) × (run .played < 99999) × (80 ≤ length (now buffer)) × (at + 320 ≤ length (now out)) ⌝ }
+    requires { ⌜ (Fits run (now area)) × (run .played < 99999) × (80 ≤ length (now buffer))
+        × (at + 320 ≤ length (now out)) ⌝ }
     ensures { λ r. ⌜ Steps (run-of run (now (area .entry))) (now (line .entry)) at (now (out .entry)) r
         (now (area .exit)) (now (out .exit)) ⌝ }
 {
@@ -150,7 +151,8 @@ fn move_down(buffer: &mut [u8], from: usize, n: usize)
 // stand for it, since a longer line can't be taken apart whatever follows.
 pub fn keep(buffer: &mut [u8], from: usize, end: usize) -> usize
     requires { ⌜ (from ≤ end) × (end ≤ length (now buffer)) ⌝ }
-    ensures { λ r. ⌜ (r ≤ 161) × (Stands-for (take r (now (buffer .exit))) (take (end - from) (drop from (now (buffer .entry))))) ⌝ }
+    ensures { λ r. ⌜ (r ≤ 161)
+        × (Stands-for (take r (now (buffer .exit))) (take (end - from) (drop from (now (buffer .entry))))) ⌝ }
 {
     let rest = end - from;
     if rest <= 161 {

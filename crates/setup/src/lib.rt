@@ -39,7 +39,8 @@ fn fill_header(image: &mut [u8], s: Shape, k: Budget) -> Budget
 // The bytes from 9 on: zeros.
 fn fill_zeros(image: &mut [u8], k: Budget) -> Budget
     requires { ⌜ 9 ≤ length (now image) ⌝ }
-    ensures { λ r. ⌜ Makes (span zero-store 9 (length (now (image .entry)) - 9)) k (now (image .entry)) r (now (image .exit)) ⌝ }
+    ensures { λ r. ⌜ Makes (span zero-store 9 (length (now (image .entry)) - 9)) k
+        (now (image .entry)) r (now (image .exit)) ⌝ }
 {
     let end = image.len();
     let mut left = k;

@@ -1,5 +1,5 @@
 -- A line taken apart (document 01, "Event lines and `rsmrun`").
-use Prim.Native.Nat.{ℕ, zero, suc}
+use Prim.Native.Nat.{ℕ}
 use mathlib.Core.Bool.{Bool, _&&_, cond}
 use mathlib.Core.List.{List, [], _∷_}
 use lib.Dec.{eqb, leb}
@@ -53,7 +53,7 @@ bytes-at i s f = with-bytes (field i s) f
 abbrev pub room : ℕ
 room = 64
 
--- the fields that follow each letter
+-- the fields that follow each letter; the budget 0 stands for the one that the player sets
 unfoldable pub format-of : List ℕ → Event
 format-of s =
     number-at 1 s (λ p. number-at 2 s (λ size. number-at 3 s (λ b. number-at 4 s (λ k.
@@ -77,7 +77,7 @@ fault-of s = number-at 1 s (λ i. Make (Fault i 0))
 unfoldable pub allow-of : List ℕ → Event
 allow-of s = number-at 1 s (λ k. Allow k)
 
--- the letter chooses
+-- The letter chooses, by its code: F 70, R 82, W 87, C 67, A 65, X 88, U 85; of those in the table only Z is left.
 unfoldable pub by-letter : ℕ → List ℕ → Event
 by-letter c s =
     cond (eqb c 70) (format-of s)

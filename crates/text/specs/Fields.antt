@@ -8,7 +8,7 @@ use lib.Dec.{eqb, leb}
 use Rattle.text.specs.declared.Number.{Number}
 use Rattle.text.specs.declared.Number.the-variants.{Value, Invalid}
 
--- the bytes of a quoted text
+-- the bytes of a quoted text of plain characters
 unfoldable pub codes : String → List ℕ
 codes []ˢ = []
 codes (c ∷ˢ s) = code c ∷ codes s
@@ -16,9 +16,12 @@ codes (c ∷ˢ s) = code c ∷ codes s
 abbrev pub comma : ℕ
 comma = 44
 
+abbrev pub line-feed : ℕ
+line-feed = 10
+
 -- ---- fields, parted by commas
 
--- the text before the first d, and after it
+-- the text before the first d, and after it; without a d, all of it and nothing
 unfoldable pub until : ℕ → List ℕ → List ℕ
 until d [] = []
 until d (c ∷ s) = cond (eqb c d) [] (c ∷ until d s)
@@ -37,7 +40,7 @@ unfoldable pub commas : List ℕ → ℕ
 commas [] = 0
 commas (c ∷ s) = let rest = commas s in cond (eqb c comma) (suc rest) rest
 
--- field 0 is the letter
+-- field 0 of a readable line is its letter
 unfoldable pub field : ℕ → List ℕ → List ℕ
 field zero s = before s
 field (suc i) s = field i (after s)

@@ -1,9 +1,10 @@
 -- Output lines (document 01, "Output fields").
-use Prim.Native.Nat.{ℕ, zero, suc, _+_, _/_, _%_}
+use Prim.Native.Nat.{ℕ, _+_, _/_, _%_}
 use mathlib.Core.Bool.{Bool, cond}
 use mathlib.Core.List.{List, [], _∷_, _++_}
 use lib.Dec.{ltb, leb}
 use Rattle.protocol.specs.declared.Answer.{Answer}
+use Rattle.text.specs.Fields.{comma, line-feed}
 
 -- the letter of a line, what was answered, and the bytes read
 pub record Row : Type 0 where
@@ -41,10 +42,11 @@ unfoldable pub row-text : ℕ → Row → List ℕ
 row-text n r =
     let a = r .answer in
     decimal n
-    ++ (44 ∷ r .letter ∷ 44 ∷ decimal (a .status)
-    ++ (44 ∷ flag-text (a .decided) ∷ 44 ∷ group-text (a .group)
-    ++ (44 ∷ decimal (a .stores) ++ (44 ∷ bytes-text (r .bytes) ++ 10 ∷ []))))
+    ++ (comma ∷ r .letter ∷ comma ∷ decimal (a .status)
+    ++ (comma ∷ flag-text (a .decided) ∷ comma ∷ group-text (a .group)
+    ++ (comma ∷ decimal (a .stores) ++ (comma ∷ bytes-text (r .bytes) ++ line-feed ∷ []))))
 
+-- the rows of a line have its number
 unfoldable pub rows-text : ℕ → List Row → List ℕ
 rows-text n [] = []
 rows-text n (r ∷ rs) = row-text n r ++ rows-text n rs

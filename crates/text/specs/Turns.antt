@@ -1,6 +1,6 @@
 -- An event played on image, record and pending allowance (document 01, "Event lines and `rsmrun`").
 use Prim.Native.Nat.{ℕ}
-use mathlib.Core.Bool.{Bool, true, false, cond}
+use mathlib.Core.Bool.{false, cond}
 use mathlib.Core.List.{List, [], _∷_}
 use mathlib.Core.Logic.{_≢_}
 use lib.Dec.{eqb}
@@ -36,10 +36,11 @@ pub record Turn : Type 0 where
 abbrev pub row : ℕ → Outcome → Row
 row letter o = record { letter = letter; answer = o .reply .answer; bytes = o .bytes }
 
+-- the player after a call
 abbrev pub moved : Outcome → Player
 moved o = record { image = o .image; state = o .reply .next; k = uncut }
 
--- after a cut the program powers up, uncut, and prints that too
+-- after a cut the program powers up, uncut, and prints that too, as U, code 85
 unfoldable pub ended : ℕ → Outcome → Turn
 ended letter o =
     let u = perform (o .image) (o .reply .next) (Power-up uncut) in
@@ -53,6 +54,7 @@ told letter status next =
     let answer : Answer = record { status = status; decided = false; group = 0; stores = 0 } in
     record { rows = record { letter = letter; answer = answer; bytes = [] } ∷ []; next = next }
 
+-- the codes of R, W, C, A, X, U
 unfoldable pub letter-of : Call → ℕ
 letter-of (Read board cell n room) = 82
 letter-of (Write board cell bytes k) = 87
@@ -69,7 +71,7 @@ with-budget k (Acknowledge board context _) = Acknowledge board context k
 with-budget k (Fault board _) = Fault board k
 with-budget k (Power-up _) = Power-up k
 
--- an F within the limits first makes the image that length, all zero
+-- An F, code 70, within the limits first makes the image that length, all zero. Z has the code 90, ? 63.
 unfoldable pub play : Player → Event → Turn
 play p (Format s) =
     let image = cond (allowed s) (replicate (total s) 0) (p .image) in
@@ -78,7 +80,8 @@ play p (Make call) = ended (letter-of call) (perform (p .image) (p .state) (with
 play p (Allow k) = told 90 0 (record { image = p .image; state = p .state; k = k })
 play p Unreadable = told 63 6 (record { image = p .image; state = p .state; k = uncut })
 
--- without a Z before it no line is cut
+-- With the allowance `uncut` no call is cut: no line without a Z before it, nor the power-up after a cut.
 pub record Nothing-cut : Type 0 where
-  pub calls : (image : List ℕ) (r : Record) (call : Call) → perform image r (with-budget uncut call) .reply .answer .status ≢ 9
+  pub calls : (image : List ℕ) (r : Record) (call : Call) →
+      perform image r (with-budget uncut call) .reply .answer .status ≢ 9
   pub formats : (s : Shape) (image : List ℕ) (r : Record) → format s image r uncut .reply .answer .status ≢ 9

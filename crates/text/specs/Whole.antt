@@ -3,12 +3,10 @@ use Prim.Native.Nat.{ℕ, suc}
 use mathlib.Core.Bool.{cond}
 use mathlib.Core.List.{List, [], _∷_, _++_}
 use lib.Dec.{eqb, ltb}
+use Rattle.text.specs.Fields.{line-feed}
 use Rattle.text.specs.Events.{taken}
 use Rattle.text.specs.Rows.{rows-text}
 use Rattle.text.specs.Turns.{Player, unformatted, play}
-
-abbrev pub line-feed : ℕ
-line-feed = 10
 
 -- a character before the first line, or a line of its own where there is none
 unfoldable pub grown : ℕ → List (List ℕ) → List (List ℕ)

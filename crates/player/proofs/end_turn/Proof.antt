@@ -25,9 +25,10 @@ returns c =
     let up = c .before .before .before .before in
     let then = up .before .before .before in
     let told = then .before .before .before .before in
-    let start = c .before .before .before .before .before .before .before .before .before .before .before .before .before .before .before .before .before .before in
+    let start = told .before .before .before .before .before .before .before in
     let args = start .args in
-    let o : Outcome = record { reply = args .reply; image = take (args .size) (args .area .now); bytes = now (args .bytes) } in
+    let image = take (args .size) (args .area .now) in
+    let o : Outcome = record { reply = args .reply; image = image; bytes = now (args .bytes) } in
     cut-turn (args .letter) o (args .number) (then .if1 .taken) (told .put-row .ensures .0) (told .put-row .ensures .1)
     (start .pre .0) (up .power-turn .ensures (args .reply .next))
 
@@ -37,9 +38,10 @@ same-length-3 c = search needs
 returns-2 : tie.Need-returns-2
 returns-2 c =
     let told = c .before .before .before .before in
-    let start = c .before .before .before .before .before .before .before .before .before .before .before in
+    let start = told .before .before .before .before .before .before .before in
     let args = start .args in
-    let o : Outcome = record { reply = args .reply; image = take (args .size) (args .area .now); bytes = now (args .bytes) } in
+    let image = take (args .size) (args .area .now) in
+    let o : Outcome = record { reply = args .reply; image = image; bytes = now (args .bytes) } in
     done-turn (args .letter) o (args .number) (c .if1 .left) (told .put-row .ensures .0) (told .put-row .ensures .1)
     (start .pre .0) refl
 

@@ -1,8 +1,8 @@
 -- `play` meets its contract: each line as its letter's function plays it.
 use native.Mathlib.Nat.{sub-zero}
-use native.Mathlib.Omega.{arith}
 use Rattle.text.specs.Events.{meant, counted}
-use Rattle.text.specs.Turns.{play}
+use Rattle.text.specs.Turns.{play, letter-of, with-budget}
+use Rattle.player.specs.Turned.{call-of}
 use borrow.Author.Needs.{needs}
 use Rattle.player.proofs.play.Statement.{statement}
 use Rattle.player.proofs.play.Tie as tie
@@ -22,74 +22,92 @@ play-read-requires c κs = search needs
 enum-known-line-3 : tie.Need-enum-known-line-3
 enum-known-line-3 c = search needs
 
-sub-play-write : tie.Need-sub-play-write
-sub-play-write c = search needs
+sub-play-call : tie.Need-sub-play-call
+sub-play-call c = search needs
 
-part-play-write-start : tie.Need-part-play-write-start
-part-play-write-start c = search needs
+part-play-call-start : tie.Need-part-play-call-start
+part-play-call-start c = search needs
 
-part-play-write-end : tie.Need-part-play-write-end
+part-play-call-end : tie.Need-part-play-call-end
 unfolding counted
-part-play-write-end c =
+part-play-call-end c =
     let line = c .before .before in
     let start = line .before .before .before .before .before in
     let h = rw (line .line3 .given .1) at (start .pre .1) in
     search (needs, h)
 
-play-write-requires : tie.Need-play-write-requires
-play-write-requires c κs = search needs
+play-call-requires : tie.Need-play-call-requires
+play-call-requires c κs = search needs
 
 enum-known-line-4 : tie.Need-enum-known-line-4
 enum-known-line-4 c = search needs
 
-sub-play-start : tie.Need-sub-play-start
-sub-play-start c = search needs
+sub-play-call-2 : tie.Need-sub-play-call-2
+sub-play-call-2 c = search needs
 
-part-play-start-start : tie.Need-part-play-start-start
-part-play-start-start c = search needs
+part-play-call-start-2 : tie.Need-part-play-call-start-2
+part-play-call-start-2 c = search needs
 
-part-play-start-end : tie.Need-part-play-start-end
+part-play-call-end-2 : tie.Need-part-play-call-end-2
 unfolding counted
-part-play-start-end c =
+part-play-call-end-2 c =
     let line = c .before .before in
     let start = line .before .before .before .before .before in
     let h = rw (line .line4 .given .1) at (start .pre .1) in
     search (needs, h)
 
-play-start-requires : tie.Need-play-start-requires
-play-start-requires c κs = search needs
+play-call-requires-2 : tie.Need-play-call-requires-2
+play-call-requires-2 c κs = search needs
 
 enum-known-line-5 : tie.Need-enum-known-line-5
 enum-known-line-5 c = search needs
 
-sub-play-acknowledge : tie.Need-sub-play-acknowledge
-sub-play-acknowledge c = search needs
+sub-play-call-3 : tie.Need-sub-play-call-3
+sub-play-call-3 c = search needs
 
-part-play-acknowledge-start : tie.Need-part-play-acknowledge-start
-part-play-acknowledge-start c = search needs
+part-play-call-start-3 : tie.Need-part-play-call-start-3
+part-play-call-start-3 c = search needs
 
-part-play-acknowledge-end : tie.Need-part-play-acknowledge-end
+part-play-call-end-3 : tie.Need-part-play-call-end-3
 unfolding counted
-part-play-acknowledge-end c =
+part-play-call-end-3 c =
     let line = c .before .before in
     let start = line .before .before .before .before .before in
     let h = rw (line .line5 .given .1) at (start .pre .1) in
     search (needs, h)
 
-play-acknowledge-requires : tie.Need-play-acknowledge-requires
-play-acknowledge-requires c κs = search needs
+play-call-requires-3 : tie.Need-play-call-requires-3
+play-call-requires-3 c κs = search needs
 
 enum-known-line-6 : tie.Need-enum-known-line-6
 enum-known-line-6 c = search needs
 
-play-fault-requires : tie.Need-play-fault-requires
-play-fault-requires c κs = search needs
+sub-play-call-4 : tie.Need-sub-play-call-4
+sub-play-call-4 c = search needs
+
+part-play-call-start-4 : tie.Need-part-play-call-start-4
+part-play-call-start-4 c = search needs
+
+part-play-call-end-4 : tie.Need-part-play-call-end-4
+part-play-call-end-4 c = search needs
+
+play-call-requires-4 : tie.Need-play-call-requires-4
+play-call-requires-4 c κs = search needs
 
 enum-told : tie.Need-enum-told
 enum-told c = search needs
 
-play-power-up-requires : tie.Need-play-power-up-requires
-play-power-up-requires c κs = search needs
+sub-play-call-5 : tie.Need-sub-play-call-5
+sub-play-call-5 c = search needs
+
+part-play-call-start-5 : tie.Need-part-play-call-start-5
+part-play-call-start-5 c = search needs
+
+part-play-call-end-5 : tie.Need-part-play-call-end-5
+part-play-call-end-5 c = search needs
+
+play-call-requires-5 : tie.Need-play-call-requires-5
+play-call-requires-5 c κs = search needs
 
 enum-known-line-7 : tie.Need-enum-known-line-7
 enum-known-line-7 c = search needs
@@ -113,8 +131,7 @@ returns : tie.Need-returns
 unfolding meant
 returns c =
     let played = c .before .before .before .before in
-    let line = played .before .before .before .before .line .given .1 in
-    rw line (played .play-format .ensures)
+    rw (played .before .before .before .before .line .given .1) (played .play-format .ensures)
 
 same-length-3 : tie.Need-same-length-3
 same-length-3 c = search needs
@@ -126,8 +143,7 @@ returns-2 : tie.Need-returns-2
 unfolding meant
 returns-2 c =
     let played = c .before .before .before .before in
-    let line = played .before .before .before .before .line2 .given .1 in
-    rw line (played .play-read .ensures)
+    rw (played .before .before .before .before .line2 .given .1) (played .play-read .ensures)
 
 same-length-5 : tie.Need-same-length-5
 same-length-5 c = search needs
@@ -136,11 +152,10 @@ same-length-6 : tie.Need-same-length-6
 same-length-6 c = search needs
 
 returns-3 : tie.Need-returns-3
-unfolding meant
+unfolding meant play letter-of with-budget call-of
 returns-3 c =
     let played = c .before .before .before .before in
-    let line = played .before .before .before .before .before .line3 .given .1 in
-    rw line (rw sub-zero at (played .play-write .ensures))
+    rw (played .before .before .before .before .before .line3 .given .1) (rw sub-zero at (played .play-call .ensures))
 
 same-length-7 : tie.Need-same-length-7
 same-length-7 c = search needs
@@ -149,11 +164,10 @@ same-length-8 : tie.Need-same-length-8
 same-length-8 c = search needs
 
 returns-4 : tie.Need-returns-4
-unfolding meant
+unfolding meant play letter-of with-budget call-of
 returns-4 c =
     let played = c .before .before .before .before in
-    let line = played .before .before .before .before .before .line4 .given .1 in
-    rw line (rw sub-zero at (played .play-start .ensures))
+    rw (played .before .before .before .before .before .line4 .given .1) (rw sub-zero at (played .play-call2 .ensures))
 
 same-length-9 : tie.Need-same-length-9
 same-length-9 c = search needs
@@ -162,11 +176,10 @@ same-length-10 : tie.Need-same-length-10
 same-length-10 c = search needs
 
 returns-5 : tie.Need-returns-5
-unfolding meant
+unfolding meant play letter-of with-budget call-of
 returns-5 c =
     let played = c .before .before .before .before in
-    let line = played .before .before .before .before .before .line5 .given .1 in
-    rw line (rw sub-zero at (played .play-acknowledge .ensures))
+    rw (played .before .before .before .before .before .line5 .given .1) (rw sub-zero at (played .play-call3 .ensures))
 
 same-length-11 : tie.Need-same-length-11
 same-length-11 c = search needs
@@ -175,11 +188,10 @@ same-length-12 : tie.Need-same-length-12
 same-length-12 c = search needs
 
 returns-6 : tie.Need-returns-6
-unfolding meant
+unfolding meant play letter-of with-budget call-of
 returns-6 c =
     let played = c .before .before .before .before in
-    let line = played .before .before .before .before .line6 .given .1 in
-    rw line (played .play-fault .ensures)
+    rw (played .before .before .before .before .before .line6 .given .1) (played .play-call4 .ensures)
 
 same-length-13 : tie.Need-same-length-13
 same-length-13 c = search needs
@@ -188,10 +200,10 @@ same-length-14 : tie.Need-same-length-14
 same-length-14 c = search needs
 
 returns-7 : tie.Need-returns-7
-unfolding meant
+unfolding meant play letter-of with-budget call-of
 returns-7 c =
     let played = c .before .before .before .before in
-    rw (played .before .before .before .enum-told .given .1) (played .play-power-up .ensures)
+    rw (played .before .before .before .before .enum-told .given .1) (played .play-call5 .ensures)
 
 same-length-15 : tie.Need-same-length-15
 same-length-15 c = search needs
@@ -200,8 +212,9 @@ returns-8 : tie.Need-returns-8
 unfolding meant play
 returns-8 c =
     let told = c .before .before in
-    let args = c .before .before .before .before .before .before .before .before .before .before .args in
-    rw (told .before .before .before .line7 .given .1) (told .tell .ensures (args .area .now))
+    let line = told .before .before .before in
+    let area = line .before .before .before .before .before .args .area .now in
+    rw (line .line7 .given .1) (told .tell .ensures area)
 
 same-length-16 : tie.Need-same-length-16
 same-length-16 c = search needs
@@ -210,8 +223,9 @@ returns-9 : tie.Need-returns-9
 unfolding meant play
 returns-9 c =
     let told = c .before .before in
-    let args = c .before .before .before .before .before .before .before .before .before .args in
-    rw (told .before .before .enum-told2 .given .1) (told .tell2 .ensures (args .area .now))
+    let line = told .before .before in
+    let area = line .before .before .before .before .before .args .area .now in
+    rw (line .enum-told2 .given .1) (told .tell2 .ensures area)
 
 pub play-spec : {M : Type 1} → statement M
 play-spec =
@@ -222,24 +236,30 @@ play-spec =
     enum-known-line-2
     play-read-requires
     enum-known-line-3
-    sub-play-write
-    part-play-write-start
-    part-play-write-end
-    play-write-requires
+    sub-play-call
+    part-play-call-start
+    part-play-call-end
+    play-call-requires
     enum-known-line-4
-    sub-play-start
-    part-play-start-start
-    part-play-start-end
-    play-start-requires
+    sub-play-call-2
+    part-play-call-start-2
+    part-play-call-end-2
+    play-call-requires-2
     enum-known-line-5
-    sub-play-acknowledge
-    part-play-acknowledge-start
-    part-play-acknowledge-end
-    play-acknowledge-requires
+    sub-play-call-3
+    part-play-call-start-3
+    part-play-call-end-3
+    play-call-requires-3
     enum-known-line-6
-    play-fault-requires
+    sub-play-call-4
+    part-play-call-start-4
+    part-play-call-end-4
+    play-call-requires-4
     enum-told
-    play-power-up-requires
+    sub-play-call-5
+    part-play-call-start-5
+    part-play-call-end-5
+    play-call-requires-5
     enum-known-line-7
     tell-requires
     enum-told-2

@@ -36,7 +36,7 @@ returns-3 : tie.Need-returns-3
 returns-3 c =
     let step = c .before .before .before .before .before in
     let other = step .before .before .before .before in
-    let args = c .before .before .before .before .before .before .before .before .before .before .before .before .before .before .before .args in
+    let args = other .before .before .before .before .before .before .args in
     let w = run-of (args .run) (args .area .now) in
     let done = step .play-line .ensures in (
       omega (arith, done .text .room, appends-length (done .text)),

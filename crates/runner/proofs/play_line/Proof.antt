@@ -27,7 +27,7 @@ returns : tie.Need-returns
 returns c =
     let played = c .before .before .before .before .before in
     let taken = played .before .before .before .before .before .before .before .before in
-    let args = c .before .before .before .before .before .before .before .before .before .before .before .before .before .before .before .before .before .before .before .args in
+    let args = taken .before .before .before .before .before .before .args in
     stepped (args .run) (args .area .now) (now (args .line)) _ (taken .take-apart .ensures .0) (played .play .ensures)
 
 pub play-line-spec : {M : Type 1} → statement M
