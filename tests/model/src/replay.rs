@@ -440,7 +440,7 @@ fn unreadable(add: Add) {
             s.line(format!("A,0,{},", run(0, 78)));
             s.line(format!("W,0,0,{}", run(0, 64)));
             for length in [159, 160, 161, 162, 163, 164, 320, 322] {
-                s.line("X".repeat(length));
+                s.line("Y".repeat(length));
                 s.line(format!("R,0,0,{}", "0".repeat(length - 6)));
                 s.line(format!("U{}", " ".repeat(length - 1)));
                 s.line(format!("Z,{}1", "0".repeat(length - 3)));
