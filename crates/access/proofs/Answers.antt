@@ -5,27 +5,31 @@ use mathlib.Core.Bool.{true, false, cond}
 use mathlib.Core.List.{List, [], _∷_, _++_}
 use mathlib.Core.Logic.{_≢_}
 use lib.ListN.{length, getD, drop}
+use lib.Seq.{take-nil}
+use native.Mathlib.Nat.{sub-self}
 use native.Mathlib.Omega.{arith}
-use borrow.Author.Tests.{ne-eqb}
-use Rattle.protocol.specs.Lists.{span, anyOf}
-use Rattle.protocol.specs.Boards.{one-way, two-way, bind-tag}
+use borrow.Author.Tests.{ne-eqb, le-ltb}
+use Rattle.boards.specs.Lists.{span, anyOf}
+use Rattle.protocol.specs.Accesses.{touched, one-way, two-way, read-binding, write-binding, bind-tag}
 use Rattle.protocol.specs.Image.{Tags, Current, size, base, view, shape-of}
 use Rattle.protocol.specs.Volatile.{depend}
-use Rattle.protocol.specs.Calls.{Read, Write, refusals, touched, tagging, placing, plan, budget, refused, record-refused, executed, decides, perform, filled}
+use Rattle.protocol.specs.Calls.{Read, Write, refusals, refusal-at, tagging, placing, plan, refused, record-refused}
+use Rattle.protocol.specs.Calls.{executed, decides, perform, filled}
 use Rattle.protocol.specs.declared.Shape.{Shape}
 use Rattle.protocol.specs.declared.Record.{Record}
 use Rattle.protocol.specs.declared.Reply.{Reply}
-use Rattle.protocol.proofs.Basics.{length-span}
+use Rattle.boards.proofs.Basics.{length-span}
 use Rattle.protocol.proofs.Bridge.{view-at}
 use Rattle.protocol.proofs.Plans.{write-inside}
 use Rattle.store.specs.Budget.{start}
 use Rattle.store.specs.declared.Budget.{Budget}
 use Rattle.store.proofs.Laws.{makes-none}
-use Rattle.blocks.specs.Puts.{Puts}
-use Rattle.answers.specs.Promise.{Answered, Performed, reply-of, refusal-of}
-use Rattle.answers.proofs.Ends.{ended, turned}
+use Rattle.store.specs.Puts.{Puts}
+use Rattle.store.specs.Promise.{Answered, Performed, reply-of}
+use Rattle.protocol.specs.Calls.{refusal-of}
+use Rattle.store.proofs.Ends.{ended, turned}
 use Rattle.access.specs.Filled.{filled-from}
-use Rattle.access.specs.Tests.{write-tests, tag-at, refusal-at, write-refusal}
+use Rattle.access.specs.Tags.{tag-at}
 use Rattle.access.proofs.Touched.{touched-one, bind-one}
 use Rattle.access.proofs.Written.{some-decide-not}
 use Rattle.access.proofs.Tests.{Admitted, refusal-of-shape}
@@ -55,54 +59,58 @@ module _ (image : List ℕ) (r : Record) (i a n : ℕ) (buffer : List ℕ) where
   unfolding perform refused record-refused filled
   read-refused room {k} e h f =
       record {
-        reply = f ∙ turned image r (Read i a n room) (sym e) h refl .reply;
-        buffer = rw (← e, ne-eqb k 0 h);
+        reply = λ b. f ∙ turned image r (Read i a n room) (sym e) h refl .reply;
+        buffer = λ b. rw (← e, ne-eqb k 0 h);
       }
+
+  -- no store: the answer is the same for every budget
+  none-spent : (b : ℕ) (next : Record) → reply-of 0 (start 0) false 0 next ≡ reply-of b (start b) false 0 next
+  unfolding reply-of
+  none-spent b next = rw (← sub-self b)
 
   pub read-done : (room : ℕ) {s : Shape} {k at tag : ℕ} {next : Record} {reply : Reply} {after : List ℕ} → Admitted s image i a n
       → k ≡ refusal-at image r (Read i a n room) → k ≡ 0 → at ≡ base s Current + a
       → next ≡ bind-tag depend one-way r i tag → tag ≡ tag-at s (view s image) a → after ≡ filled-from image at n buffer
       → reply ≡ reply-of 0 (start 0) false 0 next → Answered (Read i a n room) image r buffer reply after
-  unfolding perform executed plan budget anyOf size
+  unfolding perform executed plan anyOf size read-binding
   read-done room {s} {at = at} {next = next} ok n₀ k₀ p q t f g =
       let e = ok .shape in
       let z = refusal-of-shape image r i a n e (Read i a n room) (sym n₀ ∙ k₀) in
-      let bound = q ∙ ap (bind-tag depend one-way r i) t ∙ sym (bind-one s (view s image) a n (ok .range) one-way r i) in
+      let bound = q ∙ ap (bind-tag depend one-way r i) t ∙ sym
+      (bind-one s (view s image) a n (ok .range) read-binding r i) in
       record {
-        reply = g ∙ ap (reply-of 0 (start 0) false 0) bound ∙ ended r (Read i a n room) e z (makes-none (start 0) image) false refl .reply;
-        buffer = f ∙ filled-current s image buffer at a n p (ok .ranged .within) ∙ rw (e, z);
+        reply = λ b. g ∙ none-spent b next ∙ ap (reply-of b (start b) false 0) bound
+            ∙ ended r (Read i a n room) e z (makes-none (start b) image) false (rw take-nil) .reply;
+        buffer = λ b. f ∙ filled-current s image buffer at a n p (ok .ranged .within) ∙ rw
+            (e, z, le-ltb b 0 (omega arith));
       }
 
 -- ---- a write
 
 module _ (image : List ℕ) (r : Record) (i a : ℕ) (bytes : List ℕ) (k : ℕ) where
-  -- its refusal by the number of its bytes
-  write-number : {n : ℕ} → n ≡ write-refusal image r i a (length bytes) → n ≡ refusal-at image r (Write i a bytes k)
-  unfolding refusals write-tests
-  write-number e = e
-
-  pub write-refused : {n : ℕ} {reply : Reply} → n ≡ write-refusal image r i a (length bytes) → n ≢ 0 → reply ≡ refusal-of n r
-      → Performed (Write i a bytes k) image r reply image
+  pub write-refused : {n : ℕ} {reply : Reply} → n ≡ refusal-at image r (Write i a bytes) → n ≢ 0 → reply ≡ refusal-of n r
+      → Performed (Write i a bytes) k image r reply image
   unfolding record-refused
   write-refused e h f =
-      let p = turned image r (Write i a bytes k) (sym (write-number e)) h refl in
+      let p = turned image r (Write i a bytes) (sym e) h refl in
       record { reply = f ∙ p .reply; image = p .image }
 
   pub write-done : {s : Shape} {n tag : ℕ} {next : Record} {left : Budget} {reply : Reply} {after : List ℕ}
-      → Admitted s image i a (length bytes) → n ≡ write-refusal image r i a (length bytes) → n ≡ 0
+      → Admitted s image i a (length bytes) → n ≡ refusal-at image r (Write i a bytes) → n ≡ 0
       → next ≡ bind-tag depend two-way r i tag → tag ≡ tag-at s (view s image) a
       → Puts s (tagging (view s image) i (a / s .size ∷ []) ++ placing Current a bytes) (start k) image left after
-      → reply ≡ reply-of k left false 0 next → Performed (Write i a bytes k) image r reply after
-  unfolding plan budget
+      → reply ≡ reply-of k left false 0 next → Performed (Write i a bytes) k image r reply after
+  unfolding plan write-binding
   write-done {s} {left = left} {after = after} ok n₀ k₀ q t m g =
-      let z = refusal-of-shape image r i a (length bytes) (ok .shape) (Write i a bytes k) (sym (write-number n₀) ∙ k₀) in
+      let z = refusal-of-shape image r i a (length bytes) (ok .shape) (Write i a bytes) (sym n₀ ∙ k₀) in
       let size = ok .geometry .shape .limits .some-size in
-      let bound = q ∙ ap (bind-tag depend two-way r i) t ∙ sym (bind-one s (view s image) a (length bytes) (ok .range) two-way r i) in
+      let bound = q ∙ ap (bind-tag depend two-way r i) t ∙ sym
+      (bind-one s (view s image) a (length bytes) (ok .range) (write-binding s a (length bytes)) r i) in
       let inside = write-inside s (view s image) i a bytes size (ok .ranged) in
       let stored :
       Puts s (tagging (view s image) i (touched s a (length bytes)) ++ placing Current a bytes)
       (start k) image left after
       = rw (touched-one s a (length bytes) (ok .range)) m
       in
-      let p = ended r (Write i a bytes k) (ok .shape) z (stored .makes) false (some-decide-not s k inside) in
+      let p = ended r (Write i a bytes) (ok .shape) z (stored .makes) false (some-decide-not s k inside) in
       record { reply = g ∙ ap (reply-of k left false 0) bound ∙ p .reply; image = p .image }

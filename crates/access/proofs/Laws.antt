@@ -9,11 +9,11 @@ use lib.Seq.{drop-cons, set-at, append-snoc}
 use native.Mathlib.Omega.{arith}
 use native.Mathlib.Numerals.{add-one}
 use borrow.Author.Tests.{eq-eqb, ne-eqb}
-use Rattle.protocol.specs.Lists.{span}
-use Rattle.protocol.specs.Boards.{Binding, one-way, two-way, bind-tag, bind-boards}
+use Rattle.boards.specs.Lists.{span}
+use Rattle.protocol.specs.Accesses.{Binding, one-way, two-way, bind-tag, bind-boards}
 use Rattle.protocol.specs.Volatile.{depend}
 use Rattle.protocol.specs.declared.Record.{Record}
-use Rattle.protocol.proofs.Basics.{length-span}
+use Rattle.boards.proofs.Basics.{length-span}
 use Rattle.store.proofs.Runs.{span-more}
 use Rattle.access.specs.Filled.{filled-from}
 

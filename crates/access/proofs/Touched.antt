@@ -4,14 +4,14 @@ use mathlib.Core.Path.{_≡_, refl, ap}
 use mathlib.Core.Bool.{Bool, true, false, _||_}
 use mathlib.Core.List.{List, [], _∷_, map}
 use lib.Dec.{eqb, ltb}
-use Rattle.protocol.specs.Lists.{anyOf}
-use Rattle.protocol.specs.Boards.{Binding, bind-tag, bind-tags}
+use Rattle.boards.specs.Lists.{anyOf}
 use Rattle.protocol.specs.Image.{Tags, Memory, cells}
 use Rattle.protocol.specs.Volatile.{depend}
-use Rattle.protocol.specs.Calls.{touched, tags-of, bad-range}
+use Rattle.protocol.specs.Accesses.{touched, Binding, bind-tag, bind-blocks}
+use Rattle.protocol.specs.Calls.{tags-of, bad-range}
 use Rattle.protocol.specs.declared.Shape.{Shape}
 use Rattle.protocol.specs.declared.Record.{Record}
-use Rattle.protocol.proofs.Basics.{or-false, not-false}
+use Rattle.boards.proofs.Basics.{or-false, not-false}
 
 one-block : (s : Shape) (a n : ℕ) → bad-range s a n ≡ false → eqb (a / s .size) ((a + n - 1) / s .size) ≡ true
 unfolding bad-range
@@ -37,7 +37,8 @@ module _ (s : Shape) (m : Memory) (a n : ℕ) (ok : bad-range s a n ≡ false) w
       or-none true = refl
       or-none false = refl
 
-  pub bind-one : (how : Binding) (r : Record) (i : ℕ)
-      → bind-tags depend how r i (tags-of s m a n) ≡ bind-tag depend how r i (m Tags (a / s .size))
-  unfolding bind-tags
-  bind-one how r i = rw tags-one
+  pub bind-one : (how : ℕ → Binding) (r : Record) (i : ℕ)
+      → bind-blocks depend how (m Tags) r i (touched s a n) ≡ bind-tag depend (how (a / s .size)) r i
+      (m Tags (a / s .size))
+  unfolding bind-blocks
+  bind-one how r i = rw (touched-one s a n ok)

@@ -9,11 +9,11 @@ use lib.ListN.{take}
 use native.Mathlib.Omega.{arith}
 use native.Mathlib.Numerals.{add-one}
 use borrow.Author.Tests.{eq-eqb, ne-eqb}
-use Rattle.protocol.specs.Lists.{anyOf}
+use Rattle.boards.specs.Lists.{anyOf}
 use Rattle.protocol.specs.Image.{Tags, Current, Put, raw, rank, base, view}
 use Rattle.protocol.specs.Calls.{tagging, placing, decides}
 use Rattle.protocol.specs.declared.Shape.{Shape}
-use Rattle.protocol.proofs.Basics.{All, none, also, all-take, take-map, false-or, false-and}
+use Rattle.boards.proofs.Basics.{All, none, also, all-take, take-map, false-or, false-and}
 use Rattle.protocol.proofs.Bridge.{decides-raw}
 use Rattle.protocol.proofs.Copies.{Inside}
 use Rattle.store.specs.Budget.{Makes, one}
@@ -21,9 +21,9 @@ use Rattle.store.specs.Runs.{put-stores}
 use Rattle.store.specs.declared.Budget.{Budget}
 use Rattle.store.proofs.Laws.{makes-none}
 use Rattle.store.proofs.Areas.{placing-stores}
-use Rattle.blocks.specs.Puts.{Puts}
-use Rattle.blocks.proofs.Chains.{then-puts}
-use Rattle.access.specs.Tests.{tag-at}
+use Rattle.store.specs.Puts.{Puts}
+use Rattle.store.proofs.Chains.{then-puts}
+use Rattle.access.specs.Tags.{tag-at}
 
 module _ {s : Shape} {x : List ℕ} {k : Budget} (a i : ℕ) {tag : ℕ} (read : tag ≡ tag-at s (view s x) a) where
   pub tag-kept : tag ≡ i + 1 → Puts s (tagging (view s x) i (a / s .size ∷ [])) k x k x

@@ -2,7 +2,7 @@
 use Prim.Native.Nat.{ℕ}
 use mathlib.Core.List.{List, _++_}
 use lib.ListN.{getD, drop}
-use Rattle.protocol.specs.Lists.{span}
+use Rattle.boards.specs.Lists.{span}
 
 -- n bytes of the image from an offset on, then the buffer as it was
 unfoldable pub filled-from : List ℕ → ℕ → ℕ → List ℕ → List ℕ

@@ -1,16 +1,16 @@
 // Reads and writes.
-use answers::finish;
-use answers::refusal;
-use blocks::tagged_in;
+use boards::sets::has;
+use boards::sets::tagged_in;
 use entry::bad_range;
-use entry::common_refusal;
+use entry::entry_refusal;
 use layout::current_at;
 use layout::shape_of;
 use protocol::Record;
 use protocol::Reply;
 use protocol::Shape;
-use protocol::sets::has;
 use store::Budget;
+use store::answers::finish;
+use store::answers::refusal;
 use store::put_all;
 use store::store;
 ghost use mathlib.Core.Path.{_≡_};
@@ -18,14 +18,14 @@ ghost use mathlib.Core.Bool.{true};
 ghost use mathlib.Core.List.{[], _∷_, _++_};
 ghost use Prim.Native.Nat.{ℕ, _+_, _*_, _/_, _≤_, _<_};
 ghost use lib.ListN.{length};
-ghost use Rattle.protocol.specs.Boards.{one-way, two-way, bind-tag};
 ghost use Rattle.protocol.specs.Image.{Current, allowed, total, view};
 ghost use Rattle.protocol.specs.Volatile.{depend};
-ghost use Rattle.protocol.specs.Calls.{Read, Write, first, tagging, placing};
-ghost use Rattle.blocks.specs.Puts.{Puts};
-ghost use Rattle.answers.specs.Promise.{Performed, Answered};
+ghost use Rattle.protocol.specs.Accesses.{one-way, two-way, bind-tag};
+ghost use Rattle.protocol.specs.Calls.{Read, Write, first, refusal-at, read-tests, write-tests, tagging, placing};
+ghost use Rattle.store.specs.Puts.{Puts};
+ghost use Rattle.store.specs.Promise.{Performed, Answered};
 ghost use Rattle.access.specs.Filled.{filled-from};
-ghost use Rattle.access.specs.Tests.{read-tests, write-tests, tag-at, refusal-at, write-refusal};
+ghost use Rattle.access.specs.Tags.{tag-at};
 
 // A read of a block with this tag: the board comes to depend on the writer, if that is another board.
 fn bind_read(state: Record, i: u8, tag: u8) -> Record
@@ -101,7 +101,7 @@ fn read_tests(
     if tag as usize > s.boards {
         return 11;
     }
-    let members = state.commit.members;
+    let members = state.engaged();
     if has(members, board as u8) {
         return 13;
     }
@@ -112,7 +112,7 @@ fn read_tests(
 fn read_refusal(image: &[u8], state: Record, board: usize, cell: usize, n: usize, room: usize) -> u8
     ensures { λ r. ⌜ r ≡ refusal-at (now (image .entry)) state (Read board cell n room) ⌝ }
 {
-    let early = common_refusal(image, state, board);
+    let early = entry_refusal(image, state, board);
     if early != 0 {
         return early;
     }
@@ -160,7 +160,7 @@ fn write_tests(image: &[u8], s: Shape, state: Record, board: usize, cell: usize,
     if tag as usize > s.boards {
         return 11;
     }
-    let members = state.commit.members;
+    let members = state.engaged();
     if has(members, board as u8) {
         return 13;
     }
@@ -170,16 +170,16 @@ fn write_tests(image: &[u8], s: Shape, state: Record, board: usize, cell: usize,
     0
 }
 
-// The refusal of a write of n bytes, 0 for none.
-fn write_refusal(image: &[u8], state: Record, board: usize, cell: usize, n: usize) -> u8
-    ensures { λ r. ⌜ r ≡ write-refusal (now (image .entry)) state board cell n ⌝ }
+// A write's refusal, 0 for none.
+fn write_refusal(image: &[u8], state: Record, board: usize, cell: usize, bytes: &[u8]) -> u8
+    ensures { λ r. ⌜ r ≡ refusal-at (now (image .entry)) state (Write board cell (now (bytes .entry))) ⌝ }
 {
-    let early = common_refusal(image, state, board);
+    let early = entry_refusal(image, state, board);
     if early != 0 {
         return early;
     }
     let s = shape_of(image);
-    write_tests(image, s, state, board, cell, n)
+    write_tests(image, s, state, board, cell, bytes.len())
 }
 
 // The tag of the block at a cell, if it is not the writer's.
@@ -218,10 +218,10 @@ pub fn write(
     bytes: &[u8],
     k: usize,
 ) -> Reply
-    ensures { λ r. ⌜ Performed (Write board cell (now (bytes .entry)) k) (now (image .entry)) state
+    ensures { λ r. ⌜ Performed (Write board cell (now (bytes .entry))) k (now (image .entry)) state
         r (now (image .exit)) ⌝ }
 {
-    let number = write_refusal(image, state, board, cell, bytes.len());
+    let number = write_refusal(image, state, board, cell, bytes);
     if number != 0 {
         return refusal(number, state);
     }

@@ -8,42 +8,23 @@ use mathlib.Core.Logic.{_⊎_, inl, inr, _≢_}
 use native.Mathlib.Numerals.{add-one}
 use native.Mathlib.Omega.{arith}
 use lib.ListN.{length, getD, drop}
-use Rattle.protocol.specs.Lists.{for}
-use Rattle.protocol.specs.Boards.{has}
-use Rattle.protocol.specs.Image.{Area, Decision, Group, Tags, Current, Recovery, Tentative, Checkpoint, Put, put, raw, rank, base, size, view, total}
-use Rattle.protocol.specs.Calls.{tagged-in, copying, block-copied, context-saved}
+use Rattle.boards.specs.Lists.{for}
+use Rattle.boards.specs.Boards.{has, tagged-in}
+use Rattle.protocol.specs.Image.{Area, Decision, Group, Tags, Current, Recovery, Tentative, Checkpoint, Put, put, raw}
+use Rattle.protocol.specs.Image.{rank, base, size, view, total}
+use Rattle.protocol.specs.Calls.{copying, block-copied, context-saved}
 use Rattle.protocol.specs.declared.Shape.{Shape}
-use Rattle.protocol.proofs.Bridge.{view-at}
-use Rattle.protocol.proofs.Groups.{has-small}
+use Rattle.boards.proofs.Masks.{tag-none}
 use Rattle.protocol.proofs.Copies.{Bank, current, recovery}
 use Rattle.store.specs.Budget.{Makes, one, WellBudget}
 use Rattle.store.specs.Runs.{copy-stores, shifted}
 use Rattle.store.specs.declared.Budget.{Budget}
-use Rattle.store.proofs.Laws.{makes-none, makes-then, makes-length, makes-well}
+use Rattle.store.proofs.Laws.{makes-none, makes-then}
 use Rattle.store.proofs.Areas.{copying-lent}
-use Rattle.blocks.specs.Puts.{Puts}
+use Rattle.store.specs.Puts.{Puts}
 use Rattle.blocks.specs.Banks.{bank, block-puts}
+use Rattle.layout.proofs.Laws.{tag-read}
 use Rattle.blocks.proofs.Rounds.{block-round, context-round}
-
--- a tag as the code tests it
-pub tag-none : (g t : ℕ) → t ≡ 0 → tagged-in g t ≡ false
-unfolding tagged-in
-tag-none g t e = ap (tagged-in g) e
-
-pub tag-past : (g t : ℕ) → g < 65536 → 16 < t → tagged-in g t ≡ false
-unfolding tagged-in
-tag-past g zero h l = refl
-tag-past g (suc j) h l = has-small 16 g j h (omega arith)
-
-pub tag-board : (g t : ℕ) (r : Bool) → 0 < t → ((j : ℕ) → suc j ≡ t → r ≡ has g j) → r ≡ tagged-in g t
-unfolding tagged-in
-tag-board g zero r l h = absurd (omega arith)
-tag-board g (suc j) r l h = h j refl
-
--- a block's tag in the image
-pub tag-read : (s : Shape) (x : List ℕ) (b : ℕ) → b < s .blocks → view s x Tags b ≡ getD x (12 + b) 0
-unfolding base size
-tag-read s x b l = view-at s x Tags b l
 
 -- where a block stands in its bank, and how far the banks are apart
 rows-fit : (n b i : ℕ) → i < b → i * n + n ≤ b * n
@@ -176,13 +157,3 @@ module _ {s : Shape} {x : List ℕ} (long : length x ≡ total s) {k r : Budget}
       → Puts s (for i (context-saved s (view s x) g)) k x r y → Puts s (context-saved s (view s y) g i) r y r′ z
       → Puts s (for (i + 1) (context-saved s (view s x) g)) k x r′ z
   contexts-again g i l p q = rw add-one (context-round long well g i l p q)
-
--- what the next function may ask of the image and the budget that one leaves
-pub puts-length : {s : Shape} {ps : List Put} {k r : Budget} {x y : List ℕ} → Puts s ps k x r y → length y ≡ length x
-puts-length p = makes-length (p .makes)
-
-pub puts-well : {s : Shape} {ps : List Put} {k r : Budget} {x y : List ℕ} → Puts s ps k x r y → WellBudget k → WellBudget r
-puts-well p w = makes-well (p .makes) w
-
-pub puts-none : (s : Shape) (k : Budget) (x : List ℕ) → Puts s [] k x k x
-puts-none s k x = record { makes = makes-none k x }

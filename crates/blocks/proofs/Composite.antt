@@ -8,12 +8,15 @@ use native.Mathlib.Nat.{le-refl}
 use lib.Dec.{eqb, ltb}
 use lib.ListN.{length}
 use borrow.Author.Tests.{le-ltb}
-use Rattle.protocol.specs.Lists.{for, span}
-use Rattle.protocol.specs.Boards.{has}
-use Rattle.protocol.specs.Image.{Area, Decision, Group, Tags, Current, Recovery, Tentative, Checkpoint, Memory, Put, put, rank, size, change, after, view, total}
-use Rattle.protocol.specs.Calls.{tagged-in, tagged, stored-group, placing, copying, block-copied, blocks-copied, context-saved, completing, deciding, completed-first, recovering}
+use Rattle.boards.specs.Lists.{for, span}
+use Rattle.boards.specs.Boards.{has}
+use Rattle.protocol.specs.Image.{Area, Decision, Group, Tags, Current, Recovery, Tentative, Checkpoint, Memory, Put}
+use Rattle.protocol.specs.Image.{put, rank, size, change, after, view, total}
+use Rattle.protocol.specs.Calls.{stored-group, placing, copying, block-copied, blocks-copied, context-saved, completing}
+use Rattle.protocol.specs.Calls.{deciding, completed-first, recovering}
+use Rattle.boards.specs.Boards.{tagged-in, tagged}
 use Rattle.protocol.specs.declared.Shape.{Shape}
-use Rattle.protocol.proofs.Basics.{All, none, also, all-cond}
+use Rattle.boards.proofs.Basics.{All, none, also, all-cond}
 use Rattle.protocol.proofs.Memory.{untouched, else-area}
 use Rattle.protocol.proofs.Bridge.{Valid}
 use Rattle.protocol.proofs.Copies.{all-blocks, recovery}
@@ -21,8 +24,8 @@ use Rattle.protocol.proofs.Plans.{completing-valid}
 use Rattle.store.specs.Budget.{WellBudget}
 use Rattle.store.specs.declared.Budget.{Budget}
 use Rattle.store.proofs.Laws.{makes-well, makes-length}
-use Rattle.blocks.specs.Puts.{Puts}
-use Rattle.blocks.proofs.Chains.{then-puts, then-reads}
+use Rattle.store.specs.Puts.{Puts}
+use Rattle.store.proofs.Chains.{then-puts, then-reads}
 use Rattle.blocks.proofs.Rounds.{blocks-valid}
 
 -- the contexts are read off the image after the blocks, which is the same as before them

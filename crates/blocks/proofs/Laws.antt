@@ -5,12 +5,12 @@ use mathlib.Core.Bool.{Bool, true, false, cond}
 use mathlib.Core.List.{List, [], _∷_, _++_}
 use mathlib.Core.Logic.{_≢_}
 use native.Mathlib.Omega.{arith}
-use Rattle.protocol.specs.Lists.{for, span}
-use Rattle.protocol.specs.Boards.{has}
+use Rattle.boards.specs.Lists.{for, span}
+use Rattle.boards.specs.Boards.{has}
 use Rattle.protocol.specs.Image.{Area, Tags, Tentative, Checkpoint, Memory, Put, put, rank, after}
 use Rattle.protocol.specs.Calls.{placing, copying, block-copied, blocks-copied, context-saved}
 use Rattle.protocol.specs.declared.Shape.{Shape}
-use Rattle.protocol.proofs.Basics.{All, all-for, clash}
+use Rattle.boards.proofs.Basics.{All, all-for, clash}
 use Rattle.protocol.proofs.Memory.{Away, else-area, else-index, untouched}
 use Rattle.protocol.proofs.Copies.{all-block, all-context}
 

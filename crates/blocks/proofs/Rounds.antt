@@ -6,18 +6,18 @@ use mathlib.Core.List.{List, [], _∷_, _++_}
 use mathlib.Core.Logic.{_≢_}
 use native.Mathlib.Omega.{arith}
 use lib.ListN.{length}
-use Rattle.protocol.specs.Lists.{for}
+use Rattle.boards.specs.Lists.{for}
 use Rattle.protocol.specs.Image.{Area, Tags, Tentative, Checkpoint, Memory, Put, put, rank, size, after, view, total}
 use Rattle.protocol.specs.Calls.{block-copied, context-saved}
 use Rattle.protocol.specs.declared.Shape.{Shape}
-use Rattle.protocol.proofs.Basics.{All, all-for, all-map}
+use Rattle.boards.proofs.Basics.{All, all-for, all-map}
 use Rattle.protocol.proofs.Bridge.{Valid}
 use Rattle.protocol.proofs.Copies.{Bank, current, recovery, bank-rank, all-block, all-context, flat-below}
 use Rattle.store.specs.Budget.{WellBudget}
 use Rattle.store.specs.declared.Budget.{Budget}
-use Rattle.blocks.specs.Puts.{Puts}
+use Rattle.store.specs.Puts.{Puts}
 use Rattle.blocks.proofs.Laws.{block-still, context-still}
-use Rattle.blocks.proofs.Chains.{then-reads}
+use Rattle.store.proofs.Chains.{then-reads}
 
 -- ---- puts in their areas, for any number of rounds
 

@@ -2,8 +2,9 @@
 use mathlib.Core.Bool.{Bool, true, false, not}
 use mathlib.Core.List.{List}
 use Prim.Native.Nat.{ℕ}
+use Rattle.boards.specs.Boards.{tagged-in}
 use Rattle.protocol.specs.Image.{Area, Current, Recovery, Memory, Put}
-use Rattle.protocol.specs.Calls.{block-copied, blocks-copied, tagged-in}
+use Rattle.protocol.specs.Calls.{block-copied, blocks-copied}
 use Rattle.protocol.specs.declared.Shape.{Shape}
 
 -- the bank that a save reads, and the one that it fills

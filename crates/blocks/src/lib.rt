@@ -1,8 +1,9 @@
 // The loops that a commit, a fault and a power-up are made of. Every store is made by `store`.
+use boards::sets::has;
+use boards::sets::tagged_in;
 use layout::current_at;
 use layout::tentative_at;
 use protocol::Shape;
-use protocol::sets::has;
 use store::Budget;
 use store::copy_at;
 use store::store;
@@ -11,25 +12,12 @@ ghost use mathlib.Core.Bool.{true, false, cond};
 ghost use mathlib.Core.List.{[], _∷_};
 ghost use Prim.Native.Nat.{ℕ, _+_, _≤_, _<_, _%_, _/_};
 ghost use lib.ListN.{length, getD};
-ghost use Rattle.protocol.specs.Lists.{for};
+ghost use Rattle.boards.specs.Lists.{for};
 ghost use Rattle.protocol.specs.Image.{allowed, total, view, put, Decision, Group};
-ghost use Rattle.protocol.specs.Calls.{tagged-in, context-saved, completing};
+ghost use Rattle.protocol.specs.Calls.{context-saved, completing};
 ghost use Rattle.store.specs.Budget.{WellBudget};
-ghost use Rattle.blocks.specs.Puts.{Puts};
+ghost use Rattle.store.specs.Puts.{Puts};
 ghost use Rattle.blocks.specs.Banks.{block-puts, blocks-puts};
-
-// Whether a tag names a member of g.
-pub fn tagged_in(g: u16, tag: u8) -> bool
-    ensures { λ r. ⌜ r ≡ tagged-in g tag ⌝ }
-{
-    if tag == 0 {
-        return false;
-    }
-    if tag > 16 {
-        return false;
-    }
-    has(g, tag - 1)
-}
 
 // 0 for the bank at hand, the distance for the other one.
 fn offset(here: bool, distance: usize) -> usize

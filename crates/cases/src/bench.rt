@@ -1,6 +1,6 @@
 // What stands between two requests: the record, and the length of the image that is lent.
 use crate::text::at_most;
-use protocol::Open;
+use protocol::Commit;
 use protocol::Record;
 
 pub struct Bench {
@@ -16,22 +16,22 @@ impl Bench {
 }
 
 // The open commit with one of its numbers changed: 17 starter, 18 members, 19 acknowledged.
-fn changed_open(old: Open, place: usize, value: u16) -> Open {
+fn changed_commit(old: Commit, place: usize, value: u16) -> Commit {
     if place == 17 {
-        return Open {
+        return Commit {
             starter: (value % 256) as u8,
             members: old.members,
             acknowledged: old.acknowledged,
         };
     }
     if place == 18 {
-        return Open {
+        return Commit {
             starter: old.starter,
             members: value,
             acknowledged: old.acknowledged,
         };
     }
-    Open {
+    Commit {
         starter: old.starter,
         members: old.members,
         acknowledged: value,
@@ -57,7 +57,7 @@ pub fn changed(old: Record, place: usize, value: u16) -> Record {
             commit,
         };
     }
-    let next = changed_open(commit, place, value);
+    let next = changed_commit(commit, place, value);
     Record {
         on: old.on,
         rows,
@@ -74,7 +74,7 @@ fn same_rows(a: [u16; 16], b: [u16; 16]) -> bool {
     true
 }
 
-fn same_open(a: Open, b: Open) -> bool {
+fn same_commit(a: Commit, b: Commit) -> bool {
     if a.starter != b.starter {
         return false;
     }
@@ -95,7 +95,7 @@ pub fn same_record(a: Record, b: Record) -> bool {
     }
     let open = a.commit;
     let other = b.commit;
-    same_open(open, other)
+    same_commit(open, other)
 }
 
 // The first bytes of `to` become those of `from`, as far as both reach.

@@ -8,35 +8,41 @@ use lib.Dec.{eqb, ltb}
 use lib.ListN.{length, take, length-map, length-append}
 use native.Mathlib.Omega.{arith}
 use borrow.Author.Tests.{eq-eqb, ne-eqb, ltb-true, ltb-false}
-use Rattle.protocol.specs.Lists.{anyOf}
-use Rattle.protocol.specs.Boards.{has, commit-group}
-use Rattle.protocol.specs.Rows.{links-of}
-use Rattle.protocol.specs.Image.{Decision, Group, Tentative, Memory, Put, put, raw, base, allowed, total, view, after, shape-of}
-use Rattle.protocol.specs.Volatile.{acknowledge, opened, start, clear, depends}
-use Rattle.protocol.specs.Calls.{Call, Start, Acknowledge, Test, first, test, common, refusals, record-refused, plan, budget, perform, placing, completing, acknowledging, decides}
+use Rattle.boards.specs.Lists.{anyOf}
+use Rattle.boards.specs.Boards.{has, commit-group}
+use Rattle.boards.specs.Rows.{links-of, emptied, Grouped}
+use Rattle.boards.specs.declared.Closure.{Closure}
+use Rattle.protocol.specs.Image.{Decision, Group, Tentative, Memory, Put, put, raw, base, allowed, total, view, after}
+use Rattle.protocol.specs.Image.{shape-of}
+use Rattle.protocol.specs.Volatile.{engaged, commit-of, acknowledge, opened, start, clear, depends}
+use Rattle.protocol.specs.Calls.{Request, Start, Acknowledge, Test, first, test, refusals, entry-tests, start-tests}
+use Rattle.protocol.specs.Calls.{acknowledge-tests}
+use Rattle.protocol.specs.Calls.{record-refused, plan, perform, placing, completing, acknowledging, decides}
 use Rattle.protocol.specs.declared.Shape.{Shape}
 use Rattle.protocol.specs.declared.Record.{Record}
+use Rattle.protocol.specs.declared.Commit.{Commit}
 use Rattle.protocol.specs.declared.Reply.{Reply}
-use Rattle.protocol.proofs.Basics.{decide, false-not, All, none, also, all-append, all-take, take-map}
-use Rattle.protocol.proofs.Masks.{links-depends}
+use Rattle.boards.proofs.Basics.{decide, false-not, All, none, also, all-append, all-take, take-map}
+use Rattle.protocol.proofs.Refusals.{entry-stops, entry-goes-on}
 use Rattle.protocol.proofs.Bridge.{Valid, decides-raw}
 use Rattle.protocol.proofs.Copies.{length-placing}
 use Rattle.protocol.proofs.Safety.{deciding-stores}
 use Rattle.protocol.proofs.Outcomes.{decisive}
-use Rattle.protocol.proofs.Plans.{given-inside, inside-valid, deciding-valid, inside-indecisive, undecided-before, decided-after}
+use Rattle.protocol.proofs.Plans.{given-inside, inside-valid, deciding-valid, inside-indecisive, undecided-before}
+use Rattle.protocol.proofs.Plans.{decided-after}
 use Rattle.layout.proofs.Laws.{bounded}
 use Rattle.store.specs.Budget.{Makes, start as whole}
 use Rattle.store.specs.Runs.{put-stores}
 use Rattle.store.specs.declared.Budget.{Budget}
 use Rattle.store.proofs.Laws.{well-start, makes-refused}
 use Rattle.store.proofs.Areas.{placing-stores}
-use Rattle.blocks.specs.Puts.{Puts}
+use Rattle.store.specs.Puts.{Puts}
 use Rattle.blocks.proofs.Blocks.{context-fits}
-use Rattle.blocks.proofs.Chains.{then-puts}
+use Rattle.store.proofs.Chains.{then-puts}
 use Rattle.blocks.proofs.Composite.{decides as commits}
-use Rattle.answers.specs.Promise.{Performed, reply-of, refusal-of}
-use Rattle.answers.proofs.Ends.{made-outcome, left-most, turned, first-held, first-passed}
-use Rattle.entry.proofs.Laws.{common-stops, common-goes-on, common-geometry, common-board}
+use Rattle.store.specs.Promise.{Performed, reply-of}
+use Rattle.protocol.specs.Calls.{refusal-of}
+use Rattle.store.proofs.Ends.{made-outcome, left-most, turned, first-held, first-passed}
 use Rattle.commit.specs.Executed.{Executed}
 
 -- ---- whether the stores made decide
@@ -75,26 +81,25 @@ given-puts {s} i context e m =
 
 module _ {s : Shape} {x : List ℕ} (i : ℕ) (context : List ℕ) {k : ℕ} (board : i < s .boards)
     (full : length context ≡ s .context)
-    {r : Record} (before : Record) (same : r ≡ acknowledge before i) {b : Budget} {y : List ℕ}
+    {r : Record} (before : Record) (same : r ≡ acknowledge before i)
+    {g : ℕ} (members : g ≡ commit-of r i .members) {b : Budget} {y : List ℕ}
     (given : Puts s (placing Tentative (i * s .context) context) (whole k) x b y)
   where
     -- some have not: nothing is decided
-    pub awaits : r .commit .acknowledged ≢ r .commit .members
-        → Executed s (acknowledging s (view s x) before i context) k x (reply-of k b false (r .commit .members) r) y
+    pub awaits : commit-of r i .acknowledged ≢ g
+        → Executed s (acknowledging s (view s x) before i context) k x (reply-of k b false g r) y
     unfolding acknowledging
     awaits e =
         let ps = placing Tentative (i * s .context) context in
         let inside = given-inside s i context board full in
         let none = made-decides s k ps (inside-valid inside) ∙ inside-indecisive (all-take k inside) in
-        let both = made-outcome (r .commit .members) r [] false (given .makes) (sym none) in
-        rw (← same, ne-eqb _ _ e, append-nil) (record { reply = both .0; image = both .1 })
+        let both = made-outcome g r [] false (given .makes) (sym none) in
+        rw (← same, ← members, ne-eqb _ _ e, append-nil) (record { reply = both .0; image = both .1 })
 
-    module _ {told : Budget} {z : List ℕ} (announced : Puts s (group-puts (r .commit .members)) b y told z) where
+    module _ {told : Budget} {z : List ℕ} (announced : Puts s (group-puts g) b y told z) where
       -- the commit is decided if the third store after the context was made
-      decided : not (told .cut)
-          ≡ anyOf decides (take k (map (raw s) (deciding-stores s (view s x) i (r .commit .members) context)))
+      decided : not (told .cut) ≡ anyOf decides (take k (map (raw s) (deciding-stores s (view s x) i g context)))
       decided =
-          let g = r .commit .members in
           let m = view s x in
           let ps = placing Tentative (i * s .context) context in
           let short : told .cut ≡ ltb k (length context + 3) =
@@ -113,18 +118,16 @@ module _ {s : Shape} {x : List ℕ} (i : ℕ) (context : List ℕ) {k : ℕ} (bo
 
       -- all have: the commit is decided and completed
       pub commits-all : {left : Budget} {w : List ℕ} {next : Record} → length x ≡ total s
-          → r .commit .acknowledged ≡ r .commit .members → next ≡ clear r (r .commit .members)
-          → Puts s (completing s (view s z) (r .commit .members)) told z left w
-          → Executed s (acknowledging s (view s x) before i context) k x
-          (reply-of k left (not (told .cut)) (r .commit .members) next) w
+          → commit-of r i .acknowledged ≡ g → next ≡ clear r g
+          → Puts s (completing s (view s z) g) told z left w
+          → Executed s (acknowledging s (view s x) before i context) k x (reply-of k left (not (told .cut)) g next) w
       unfolding acknowledging
       commits-all {next = next} long e f completed =
-          let g = r .commit .members in
           let ps = placing Tentative (i * s .context) context in
           let valid = inside-valid (given-inside s i context board full) in
           let all = commits long (well-start k) ps g valid given announced completed in
           let both = made-outcome g next [] (not (told .cut)) (all .makes) decided in
-          rw (← same, eq-eqb _ _ e, ← f) (record { reply = both .0; image = both .1 })
+          rw (← same, ← members, eq-eqb _ _ e, ← f) (record { reply = both .0; image = both .1 })
 
 -- what is left at the end is no more than there was
 pub left-all : {s : Shape} {ps qs rs : List Put} {k : ℕ} {b b′ b″ : Budget} {x y z w : List ℕ}
@@ -137,84 +140,98 @@ left-all p q t = left-most (then-puts _ _ p (then-puts _ _ q t) .makes)
 pub started : {r : Record} (state : Record) (i : ℕ) {g : ℕ} → r ≡ start state i g
     → g ≡ commit-group (links-of (state .rows)) i
     → r ≡ acknowledge (opened state i (commit-group (depends state) i)) i
-unfolding start
-started state i e f =
-    e ∙ ap (λ h. acknowledge (opened state i h) i) (f ∙ ap (λ d. commit-group d i) (links-depends state))
+unfolding start depends
+started state i e f = e ∙ ap (λ h. acknowledge (opened state i h) i) f
 
-module _ {s : Shape} {image : List ℕ} (state : Record) (call : Call) (same : s ≡ shape-of image) {r : Reply} where
-  pub performed : {after : List ℕ} → first (refusals image s (view s image) state call) ≡ 0
-      → Executed s (plan s (view s image) state call) (budget call) image r after → Performed call image state r after
-  unfolding perform
-  performed n h = record { reply = h .reply ∙ rw (← same, n); image = h .image ∙ rw (← same, n) }
+-- the group that was searched in the rows is the group of the opened commit, with the emptied rows of the record
+pub started-group : {r : Record} (state : Record) (i : ℕ) {g : ℕ} {c : Closure} → r ≡ start state i (c .members)
+    → Grouped (state .rows) g c → Grouped (r .rows) (commit-of r i .members) c
+unfolding start opened acknowledge commit-of
+started-group state i {c = c} e h =
+    record {
+      members = ap (λ r. r .commit .members) (sym e);
+      left = h .left ∙ ap (emptied (state .rows)) (sym (h .members)) ∙ rw e;
+    }
 
-  pub refused-with : {n : ℕ} → first (refusals image s (view s image) state call) ≡ n → n ≢ 0
-      → state ≡ record-refused state call → r ≡ refusal-of n state → Performed call image state r image
-  refused-with {n} f h e g =
-      subst (λ a. Performed call image state a image) (sym g)
-      (turned image state call (subst (λ t. first (refusals image t (view t image) state call) ≡ n) same f) h e)
+-- an acknowledgement leaves rows and members
+pub acknowledged-group : {r : Record} (state : Record) (i : ℕ) {o : Commit} {c : Closure} → r ≡ acknowledge state i
+    → o ≡ commit-of state i → Grouped (r .rows) (o .members) c → Grouped (r .rows) (commit-of r i .members) c
+unfolding acknowledge commit-of
+acknowledged-group {r} state i {o = o} e f h =
+    let same : o .members ≡ commit-of r i .members = ap (λ o. o .members) f ∙ rw e in
+    record { members = h .members ∙ same; left = h .left ∙ ap (emptied (r .rows)) same }
+
+module _ {s : Shape} {image : List ℕ} (state : Record) (request : Request)
+    (same : s ≡ shape-of image) {k : ℕ} {r : Reply}
+  where
+    pub performed : {after : List ℕ} → first (refusals image s (view s image) state request) ≡ 0
+        → Executed s (plan s (view s image) state request) k image r after → Performed request k image state r after
+    unfolding perform
+    performed n h = record { reply = h .reply ∙ rw (← same, n); image = h .image ∙ rw (← same, n) }
+
+    pub refused-with : {n : ℕ} → first (refusals image s (view s image) state request) ≡ n → n ≢ 0
+        → state ≡ record-refused state request → r ≡ refusal-of n state → Performed request k image state r image
+    refused-with {n} f h e g =
+        subst (λ a. Performed request k image state a image) (sym g)
+        (turned image state request (subst (λ t. first (refusals image t (view t image) state request) ≡ n) same f) h e)
 
 -- ---- the tests in their order
 
--- what a call that passed the first tests knows
-module _ (image : List ℕ) (state : Record) (board : ℕ) (passed : 0 ≡ first (common image state board [])) where
-  pub board-small : board < 16
-  board-small =
-      omega (arith, common-board image state board passed, common-geometry image state board passed .shape .limits .most-boards)
-
-  pub ready : {s : Shape} → s ≡ shape-of image → (allowed s ≡ true) × (length image ≡ total s) × (board < s .boards)
-  ready same =
-      let g = common-geometry image state board passed in
-      rw same (g .sound .allowed-shape, g .sound .long, common-board image state board passed)
-
-module _ (image : List ℕ) (s : Shape) (m : Memory) (state : Record) (board : ℕ) (context : List ℕ) (k : ℕ) where
-  pub start-common : {n : ℕ} → n ≡ first (common image state board []) → n ≢ 0
-      → first (refusals image s m state (Start board context k)) ≡ n
+module _ (image : List ℕ) (s : Shape) (m : Memory) (state : Record) (board : ℕ) (context : List ℕ) where
+  pub start-entry : {n : ℕ} → n ≡ first (entry-tests image state board) → n ≢ 0
+      → first (refusals image s m state (Start board context)) ≡ n
   unfolding refusals
-  start-common e h = common-stops image state board _ e h
+  start-entry e h = entry-stops image state board _ e h
 
-  pub acknowledge-common : {n : ℕ} → n ≡ first (common image state board []) → n ≢ 0
-      → first (refusals image s m state (Acknowledge board context k)) ≡ n
+  pub acknowledge-entry : {n : ℕ} → n ≡ first (entry-tests image state board) → n ≢ 0
+      → first (refusals image s m state (Acknowledge board context)) ≡ n
   unfolding refusals
-  acknowledge-common e h = common-stops image state board _ e h
+  acknowledge-entry e h = entry-stops image state board _ e h
 
-  module _ (passed : 0 ≡ first (common image state board [])) where
-    long : length context ≢ s .context → (ts : List Test)
-        → first (common image state board (test (not (eqb (length context) (s .context))) 3 ∷ ts)) ≡ 3
-    long e ts = common-goes-on image state board _ passed ∙ first-held 3 ts (false-not (ne-eqb _ _ e))
+  module _ (passed : 0 ≡ first (entry-tests image state board)) where
+    own : (ts : List Test) → first (entry-tests image state board ++ ts) ≡ first ts
+    own ts = entry-goes-on image state board ts (sym passed)
 
-    pub start-long : length context ≢ s .context → first (refusals image s m state (Start board context k)) ≡ 3
-    unfolding refusals
-    start-long e = long e _
+    pub start-long : length context ≢ s .context → first (refusals image s m state (Start board context)) ≡ 3
+    unfolding refusals start-tests
+    start-long e = own _ ∙ first-held 3 _ (false-not (ne-eqb _ _ e))
 
-    pub acknowledge-long : length context ≢ s .context → first (refusals image s m state (Acknowledge board context k)) ≡ 3
-    unfolding refusals
-    acknowledge-long e = long e _
+    pub acknowledge-long : length context ≢ s .context
+        → first (refusals image s m state (Acknowledge board context)) ≡ 3
+    unfolding refusals acknowledge-tests
+    acknowledge-long e = own _ ∙ first-held 3 _ (false-not (ne-eqb _ _ e))
 
     module _ (full : length context ≡ s .context) where
-      fits : (ts : List Test)
-          → first (common image state board (test (not (eqb (length context) (s .context))) 3 ∷ ts)) ≡ first ts
-      fits ts = common-goes-on image state board _ passed ∙ first-passed 3 ts (ap not (eq-eqb _ _ full))
+      fits : (ts : List Test) → first (test (not (eqb (length context) (s .context))) 3 ∷ ts) ≡ first ts
+      fits ts = first-passed 3 ts (ap not (eq-eqb _ _ full))
 
-      pub start-open : state .commit .members ≢ 0 → first (refusals image s m state (Start board context k)) ≡ 14
-      unfolding refusals
-      start-open e = fits _ ∙ first-held 14 [] (false-not (ne-eqb _ _ e))
+      pub start-open : engaged state ≢ 0 → first (refusals image s m state (Start board context)) ≡ 14
+      unfolding refusals start-tests
+      start-open e = own _ ∙ fits _ ∙ first-held 14 [] (false-not (ne-eqb _ _ e))
 
-      pub start-passes : state .commit .members ≡ 0 → first (refusals image s m state (Start board context k)) ≡ 0
-      unfolding refusals first
-      start-passes e = fits _ ∙ first-passed 14 [] (ap not (eq-eqb _ _ e))
+      pub start-passes : engaged state ≡ 0 → first (refusals image s m state (Start board context)) ≡ 0
+      unfolding refusals start-tests first
+      start-passes e =
+          own (start-tests s state (length context)) ∙ fits (test (not (eqb (engaged state) 0)) 14 ∷ [])
+          ∙ first-passed 14 [] (ap not (eq-eqb _ _ e))
 
-      pub acknowledge-other : has (state .commit .members) board ≡ false
-          → first (refusals image s m state (Acknowledge board context k)) ≡ 15
-      unfolding refusals
-      acknowledge-other e = fits _ ∙ first-held 15 _ (false-not e)
+      pub acknowledge-other : has (engaged state) board ≡ false
+          → first (refusals image s m state (Acknowledge board context)) ≡ 15
+      unfolding refusals acknowledge-tests
+      acknowledge-other e = own _ ∙ fits _ ∙ first-held 15 _ (false-not e)
 
-      pub acknowledge-again : has (state .commit .members) board ≡ true → has (state .commit .acknowledged) board ≡ true
-          → first (refusals image s m state (Acknowledge board context k)) ≡ 16
-      unfolding refusals
-      acknowledge-again e f = fits _ ∙ first-passed 15 _ (ap not e) ∙ first-held 16 [] f
+      module _ (member : has (engaged state) board ≡ true) where
+        pub acknowledge-again : has (commit-of state board .acknowledged) board ≡ true
+            → first (refusals image s m state (Acknowledge board context)) ≡ 16
+        unfolding refusals acknowledge-tests
+        acknowledge-again f = own _ ∙ fits _ ∙ first-passed 15 _ (ap not member) ∙ first-held 16 [] f
 
-      pub acknowledge-passes : has (state .commit .members) board ≡ true → has (state .commit .acknowledged) board ≡ false
-          → first (refusals image s m state (Acknowledge board context k)) ≡ 0
-      unfolding refusals first
-      acknowledge-passes e f =
-          fits _ ∙ first-passed 15 (test (has (state .commit .acknowledged) board) 16 ∷ []) (ap not e) ∙ first-passed 16 [] f
+        pub acknowledge-passes : has (commit-of state board .acknowledged) board ≡ false
+            → first (refusals image s m state (Acknowledge board context)) ≡ 0
+        unfolding refusals acknowledge-tests first
+        acknowledge-passes f =
+            let last = test (has (commit-of state board .acknowledged) board) 16 ∷ [] in
+            own (acknowledge-tests s state board (length context)) ∙ fits
+            (test (not (has (engaged state) board)) 15 ∷ last)
+            ∙ first-passed 15 last (ap not member)
+            ∙ first-passed 16 [] f

@@ -1,81 +1,63 @@
--- The first tests of a call, and then the others; the range of an access as the code tests it.
+-- The first tests of a call, what a call that passed them knows, and the range of an access as the code tests it.
 use Prim.Native.Nat.{ℕ, zero, suc, _+_, _-_, _*_, _/_, _≤_, _<_}
 use mathlib.Core.Path.{_≡_, refl, sym, _∙_, ap, subst}
 use mathlib.Core.Bool.{Bool, true, false, _||_, not, cond}
-use mathlib.Core.List.{List, [], _∷_}
+use mathlib.Core.List.{List, _++_}
 use mathlib.Core.Logic.{⊎-elim, _≢_}
 use lib.Dec.{eqb, ltb, leb}
 use lib.ListN.{length, getD}
 use native.Mathlib.Omega.{arith}
 use borrow.Author.Tests.{eq-eqb, ne-eqb, lt-ltb, le-ltb, le-leb, lt-leb}
-use Rattle.protocol.specs.Image.{cells, in-order, shape-of, byte}
+use Rattle.protocol.specs.Image.{cells, allowed, total, in-order, shape-of, byte}
 use Rattle.protocol.specs.Volatile.{bad-record}
-use Rattle.protocol.specs.Calls.{Test, test, first, common, bad-range}
+use Rattle.protocol.specs.Calls.{Test, first, entry-tests, bad-range}
 use Rattle.protocol.specs.declared.Shape.{Shape}
 use Rattle.protocol.specs.declared.Record.{Record}
-use Rattle.protocol.proofs.Basics.{decide, clash, not-false}
-use Rattle.protocol.proofs.Outcomes.{passed}
-use Rattle.protocol.proofs.Plans.{Passed, common-passed}
+use Rattle.protocol.proofs.Refusals.{entered, entry-goes-on}
 use Rattle.layout.proofs.Laws.{Geometry, geometry}
 
 -- ---- the three first tests
 
 module _ (image : List ℕ) (r : Record) (i : ℕ) where
-  pub common-eleven : false ≡ in-order 0 image → 11 ≡ first (common image r i [])
-  unfolding common first
-  common-eleven e = rw (← e)
+  pub entry-eleven : false ≡ in-order 0 image → 11 ≡ first (entry-tests image r i)
+  unfolding entry-tests first
+  entry-eleven e = rw (← e)
 
-  pub common-twelve : true ≡ in-order 0 image → true ≡ bad-record (byte image 4) r → 12 ≡ first (common image r i [])
-  unfolding common first shape-of
-  common-twelve e f = rw (← e, ← f)
+  pub entry-twelve : true ≡ in-order 0 image → true ≡ bad-record (byte image 4) r → 12 ≡ first (entry-tests image r i)
+  unfolding entry-tests first shape-of
+  entry-twelve e f = rw (← e, ← f)
 
-  pub common-one : true ≡ in-order 0 image → false ≡ bad-record (byte image 4) r → byte image 4 ≤ i → 1 ≡ first (common image r i [])
-  unfolding common first shape-of
-  common-one e f l = rw (← e, ← f, le-leb (byte image 4) i l)
+  pub entry-one : true ≡ in-order 0 image → false ≡ bad-record (byte image 4) r → byte image 4 ≤ i
+      → 1 ≡ first (entry-tests image r i)
+  unfolding entry-tests first shape-of
+  entry-one e f l = rw (← e, ← f, le-leb (byte image 4) i l)
 
-  pub common-none : true ≡ in-order 0 image → false ≡ bad-record (byte image 4) r → i < byte image 4 → 0 ≡ first (common image r i [])
-  unfolding common first shape-of
-  common-none e f l = rw (← e, ← f, lt-leb (byte image 4) i l)
-
-  -- then the others
-  pub common-stops : (ts : List Test) {n : ℕ} → n ≡ first (common image r i []) → n ≢ 0 → first (common image r i ts) ≡ n
-  unfolding common first
-  common-stops ts {n} e h =
-      ⊎-elim
-      (λ (a : not (in-order 0 image) ≡ true). rw a (sym (rw a at e)))
-      (λ (a : not (in-order 0 image) ≡ false).
-      ⊎-elim
-      (λ (b : bad-record (shape-of image .boards) r ≡ true). rw (a, b) (sym (rw (a, b) at e)))
-      (λ (b : bad-record (shape-of image .boards) r ≡ false).
-      ⊎-elim
-      (λ (c : leb (shape-of image .boards) i ≡ true). rw (a, b, c) (sym (rw (a, b, c) at e)))
-      (λ (c : leb (shape-of image .boards) i ≡ false). absurd (h (rw (a, b, c) at e)))
-      (decide (leb (shape-of image .boards) i)))
-      (decide (bad-record (shape-of image .boards) r)))
-      (decide (not (in-order 0 image)))
-
-  pub common-goes-on : (ts : List Test) → 0 ≡ first (common image r i []) → first (common image r i ts) ≡ first ts
-  unfolding common first
-  common-goes-on ts e =
-      let p = shape-of image .boards in
-      let one = passed (not (in-order 0 image)) 11 (test (bad-record p r) 12 ∷ test (leb p i) 1 ∷ []) (omega arith) (sym e) in
-      let two = passed (bad-record p r) 12 (test (leb p i) 1 ∷ []) (omega arith) (one .1) in
-      let three = passed (leb p i) 1 [] (omega arith) (two .1) in
-      rw (one .0, two .0, three .0)
+  pub entry-none : true ≡ in-order 0 image → false ≡ bad-record (byte image 4) r → i < byte image 4
+      → 0 ≡ first (entry-tests image r i)
+  unfolding entry-tests first shape-of
+  entry-none e f l = rw (← e, ← f, lt-leb (byte image 4) i l)
 
   -- what a call that passed them knows
-  pub common-geometry : 0 ≡ first (common image r i []) → Geometry 0 (shape-of image) image
-  unfolding common
-  common-geometry e =
-      let p = shape-of image .boards in
-      let one = passed (not (in-order 0 image)) 11 (test (bad-record p r) 12 ∷ test (leb p i) 1 ∷ []) (omega arith) (sym e) in
-      geometry (not-false (in-order 0 image) (one .0))
+  module _ (passed : 0 ≡ first (entry-tests image r i)) where
+    pub entry-geometry : Geometry 0 (shape-of image) image
+    entry-geometry = geometry (entered image r i refl (sym passed) .ordered)
 
-  pub common-board : 0 ≡ first (common image r i []) → i < shape-of image .boards
-  common-board e = common-passed image r i [] refl (sym e) .board
+    pub entry-board : i < shape-of image .boards
+    entry-board = entered image r i refl (sym passed) .board
 
-  pub common-small : 0 ≡ first (common image r i []) → i < 16
-  common-small e = omega (arith, common-board e, common-geometry e .shape .limits .most-boards)
+    pub entry-small : i < 16
+    entry-small = omega (arith, entry-board, entry-geometry .shape .limits .most-boards)
+
+    -- the same of the shape that was read
+    pub ready : {s : Shape} → s ≡ shape-of image → (allowed s ≡ true) × (length image ≡ total s) × (i < s .boards)
+    ready same = rw same (entry-geometry .sound .allowed-shape, entry-geometry .sound .long, entry-board)
+
+-- a call's own tests go on, made for the shape that was read
+pub own-tests : (image : List ℕ) (r : Record) (i : ℕ) (tests : Shape → List Test) {s : Shape} {k : ℕ}
+    → 0 ≡ first (entry-tests image r i) → s ≡ shape-of image → k ≡ first (tests s)
+    → k ≡ first (entry-tests image r i ++ tests (shape-of image))
+own-tests image r i tests passed same e =
+    e ∙ ap (λ t. first (tests t)) same ∙ sym (entry-goes-on image r i (tests (shape-of image)) (sym passed))
 
 -- ---- the range
 

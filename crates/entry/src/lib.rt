@@ -1,17 +1,18 @@
 // What the calls of a board test before anything else, in the stated order.
+pub mod checks;
+
+use crate::checks::bad_record;
 use layout::in_order;
 use protocol::Record;
 use protocol::Shape;
-use protocol::checks::bad_record;
 ghost use mathlib.Core.Path.{_≡_};
 ghost use mathlib.Core.Bool.{true};
-ghost use mathlib.Core.List.{[]};
 ghost use Rattle.protocol.specs.Image.{allowed};
-ghost use Rattle.protocol.specs.Calls.{first, common, bad-range};
+ghost use Rattle.protocol.specs.Calls.{first, entry-tests, bad-range};
 
 // 11 for the header, 12, 1; 0 if none of them holds.
-pub fn common_refusal(image: &[u8], state: Record, board: usize) -> u8
-    ensures { λ r. ⌜ r ≡ first (common (now (image .entry)) state board []) ⌝ }
+pub fn entry_refusal(image: &[u8], state: Record, board: usize) -> u8
+    ensures { λ r. ⌜ r ≡ first (entry-tests (now (image .entry)) state board) ⌝ }
 {
     if !in_order(image, 0) {
         return 11;

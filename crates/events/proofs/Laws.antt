@@ -9,7 +9,7 @@ use lib.Seq.{take-append-seam}
 use native.Mathlib.Omega.{arith}
 use borrow.Author.Tests.{leb-true, eqb-true, ne-eqb}
 use Rattle.protocol.specs.Calls.{filled, Read, Write, Start, Acknowledge, Fault}
-use Rattle.protocol.proofs.Basics.{and-true, if-true, if-false}
+use Rattle.boards.proofs.Basics.{and-true, if-true, if-false}
 use Rattle.text.specs.Fields.{before, after, commas, field, number-of, pairs, decoded}
 use Rattle.text.specs.Events.{Event, Format, Make, Allow, Unreadable, with-number, with-bytes, room}
 use Rattle.text.specs.Events.{listed, well-parted, by-letter, taken}
@@ -127,21 +127,21 @@ module _ (s : List ℕ) where
   read-made d e f = rw (d, e, f)
 
   pub write-made : {i a n : ℕ} {out buffer : List ℕ} → number-of (field 1 s) ≡ Value i → number-of (field 2 s) ≡ Value a
-      → Told (field 3 s) (Count n) out buffer → Make (Write i a (take n out) 0) ≡ write-of s
+      → Told (field 3 s) (Count n) out buffer → Make (Write i a (take n out)) ≡ write-of s
   unfolding write-of with-number
   write-made d e told = rw (d, e, bytes told)
 
   pub start-made : {i n : ℕ} {out buffer : List ℕ} → number-of (field 1 s) ≡ Value i
-      → Told (field 2 s) (Count n) out buffer → Make (Start i (take n out) 0) ≡ start-of s
+      → Told (field 2 s) (Count n) out buffer → Make (Start i (take n out)) ≡ start-of s
   unfolding start-of with-number
   start-made d told = rw (d, bytes told)
 
   pub acknowledge-made : {i n : ℕ} {out buffer : List ℕ} → number-of (field 1 s) ≡ Value i
-      → Told (field 2 s) (Count n) out buffer → Make (Acknowledge i (take n out) 0) ≡ acknowledge-of s
+      → Told (field 2 s) (Count n) out buffer → Make (Acknowledge i (take n out)) ≡ acknowledge-of s
   unfolding acknowledge-of with-number
   acknowledge-made d told = rw (d, bytes told)
 
-  pub fault-made : {i : ℕ} → number-of (field 1 s) ≡ Value i → Make (Fault i 0) ≡ fault-of s
+  pub fault-made : {i : ℕ} → number-of (field 1 s) ≡ Value i → Make (Fault i) ≡ fault-of s
   unfolding fault-of with-number
   fault-made d = rw d
 

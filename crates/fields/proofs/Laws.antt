@@ -12,9 +12,9 @@ use native.Mathlib.Nat.{sub-zero}
 use native.Mathlib.Numerals.{add-one}
 use borrow.Author.Tests.{eq-eqb, ne-eqb, le-leb, lt-leb, leb-true, eqb-true}
 use Rattle.protocol.specs.Calls.{filled}
-use Rattle.protocol.specs.Lists.{every, any}
-use Rattle.protocol.proofs.Basics.{clash, and-true, true-and, false-and, and-false, or-true, not-true, test-ext}
-use Rattle.protocol.proofs.Basics.{if-true, if-false, every-at, some-any, any-some, none-any}
+use Rattle.boards.specs.Lists.{every, any}
+use Rattle.boards.proofs.Basics.{clash, and-true, true-and, false-and, and-false, or-true, not-true, test-ext}
+use Rattle.boards.proofs.Basics.{if-true, if-false, every-at, some-any, any-some, none-any}
 use Rattle.text.specs.Fields.{codes, comma, until, past, field, before, after, commas, number-from, number-of, between}
 use Rattle.text.specs.Fields.{digit, pairs, decoded}
 use Rattle.text.specs.Events.{letters, due, listed, well-parted}

@@ -9,13 +9,14 @@ use lib.ListN.{length, take, drop}
 use native.Mathlib.Omega.{arith}
 use native.Mathlib.Nat.{add-sub-cancel-left, suc-mul, mul-le-mul-right}
 use borrow.Author.Tests.{eq-eqb, ne-eqb, eqb-true, le-leb, lt-leb}
-use Rattle.protocol.specs.Image.{Area, Recovery, Checkpoint, cells, contexts, base, size, total, byte, shape-of, in-order, view}
-use Rattle.protocol.specs.Calls.{first, context-part, context-status, same-shape, same-area, compare}
+use Rattle.protocol.specs.Image.{Area, Recovery, Checkpoint, cells, contexts, base, size, total, byte, shape-of}
+use Rattle.protocol.specs.Image.{in-order, view}
+use Rattle.protocol.specs.Calls.{first, context-tests, context-part, context-status}
 use Rattle.protocol.specs.declared.Shape.{Shape}
-use Rattle.protocol.proofs.Basics.{and-true, false-and, test-ext, every-at, every-all, not-true, not-false}
+use Rattle.boards.proofs.Basics.{and-true, false-and, test-ext, every-at, every-all, not-true, not-false}
 use Rattle.protocol.proofs.Bridge.{view-at, ends-within}
 use Rattle.layout.proofs.Laws.{Geometry}
-use Rattle.inspect.specs.Areas.{same-bytes, same-areas}
+use Rattle.inspect.specs.Same.{compare-tests, same-shape, same-area, same-areas, same-bytes, compare}
 
 -- a test's answer r, as an `if` on its negation left or took it
 pub holds : {r t : Bool} → r ≡ t → not r ≡ false → t ≡ true
@@ -28,19 +29,19 @@ fails e h = sym e ∙ not-true _ h
 
 module _ (image : List ℕ) (i : ℕ) where
   pub context-disordered : in-order 0 image ≡ false → ([] ≡ context-part image i) × (11 ≡ context-status image i)
-  unfolding context-part context-status first
+  unfolding context-part context-tests first
   context-disordered h = rw h (refl, refl)
 
   pub context-beyond : {s : Shape} → s ≡ shape-of image → in-order 0 image ≡ true → s .boards ≤ i →
       ([] ≡ context-part image i) × (1 ≡ context-status image i)
-  unfolding context-part context-status first
+  unfolding context-part context-tests first
   context-beyond e h l = rw (h, ← e, le-leb _ _ l) (refl, refl)
 
   pub context-within : {s : Shape} {at : ℕ} → s ≡ shape-of image → in-order 0 image ≡ true →
       at ≡ base s Checkpoint → i < s .boards →
       (take (at + i * s .context + s .context - (at + i * s .context)) (drop (at + i * s .context) image)
       ≡ context-part image i) × (0 ≡ context-status image i)
-  unfolding context-part context-status first
+  unfolding context-part context-tests first
   context-within e h b l = rw (h, ← e, lt-leb _ _ l, ← b, add-sub-cancel-left) (refl, refl)
 
 -- a board's context ends within the image
@@ -101,13 +102,13 @@ module _ (s : Shape) (image other : List ℕ) where
 
   -- where the banks differ the areas do; where they are the same the contexts tell
   pub bank-other : {at : ℕ} {r : Bool} → at ≡ base s Recovery → r ≡ same-bytes image other at (cells s) →
-      not r ≡ true → false ≡ same-areas s image other
+      not r ≡ true → false ≡ same-areas s (view s image) (view s other)
   unfolding same-areas size
   bank-other p e h = sym (false-and _ (fails (area-bytes Recovery p e) h))
 
   pub bank-same : {at from : ℕ} {r b : Bool} → at ≡ base s Recovery → r ≡ same-bytes image other at (cells s) →
       not r ≡ false → from ≡ base s Checkpoint → b ≡ same-bytes image other from (contexts s) →
-      b ≡ same-areas s image other
+      b ≡ same-areas s (view s image) (view s other)
   unfolding same-areas size
   bank-same p e h q f = rw (holds (area-bytes Recovery p e) h) (area-bytes Checkpoint q f)
 
@@ -117,22 +118,23 @@ area-ends s a p e = omega (arith, ends-within s a)
 
 module _ (image other : List ℕ) where
   pub first-disordered : in-order 0 image ≡ false → record { status = 11; same = false } ≡ compare image other
-  unfolding compare first
+  unfolding compare compare-tests first
   first-disordered h = rw h
 
   pub second-disordered : in-order 0 image ≡ true → in-order 0 other ≡ false →
       record { status = 11; same = false } ≡ compare image other
-  unfolding compare first
+  unfolding compare compare-tests first
   second-disordered h k = rw (h, k)
 
   pub other-shape : {s t : Shape} → s ≡ shape-of image → t ≡ shape-of other →
       in-order 0 image ≡ true → in-order 0 other ≡ true → same-shape s t ≡ false →
       record { status = 0; same = false } ≡ compare image other
-  unfolding compare first
+  unfolding compare compare-tests first
   other-shape e f h k d = rw (h, k, ← e, ← f, d)
 
   pub one-shape : {s t : Shape} {r : Bool} → s ≡ shape-of image → t ≡ shape-of other →
-      in-order 0 image ≡ true → in-order 0 other ≡ true → same-shape s t ≡ true → r ≡ same-areas s image other →
+      in-order 0 image ≡ true → in-order 0 other ≡ true → same-shape s t ≡ true
+      → r ≡ same-areas s (view s image) (view s other) →
       record { status = 0; same = r } ≡ compare image other
-  unfolding compare first same-areas
+  unfolding compare compare-tests first same-areas
   one-shape {s} {t} e f h k d a = rw (a, h, k, ← e, ← f, d, ← same-equal s t d)

@@ -3,15 +3,14 @@ use layout::checkpoint_at;
 use layout::in_order;
 use layout::recovery_at;
 use layout::shape_of;
-use protocol::Compared;
 use protocol::Shape;
 ghost use mathlib.Core.Path.{_≡_};
 ghost use mathlib.Core.Bool.{true};
 ghost use Prim.Native.Nat.{_+_, _≤_};
 ghost use lib.ListN.{length};
-ghost use Rattle.protocol.specs.Image.{allowed, total};
-ghost use Rattle.protocol.specs.Calls.{context-part, context-status, same-shape, compare};
-ghost use Rattle.inspect.specs.Areas.{same-bytes, same-areas};
+ghost use Rattle.protocol.specs.Image.{allowed, total, view};
+ghost use Rattle.protocol.specs.Calls.{context-part, context-status};
+ghost use Rattle.inspect.specs.Same.{same-shape, same-bytes, same-areas, compare};
 
 // A board's recovery context, as that part of the image itself; `status` becomes 0 or the refusal, whose part is empty.
 pub fn context<'a>(image: &'a [u8], board: usize, status: &mut u8) -> &'a [u8]
@@ -32,6 +31,12 @@ pub fn context<'a>(image: &'a [u8], board: usize, status: &mut u8) -> &'a [u8]
     let at = checkpoint_at(s) + board * size;
     let end = at + size;
     &image[at..end]
+}
+
+// What comparing two images answers: 0 or the number of the refusal, and whether they are the same.
+pub struct Compared {
+    pub status: u8,
+    pub same: bool,
 }
 
 // Whether P, S, B and K agree.
@@ -68,7 +73,7 @@ fn same_bytes(image: &[u8], other: &[u8], at: usize, n: usize) -> bool
 // Whether the recovery bank and the recovery contexts of two images of one shape are the same.
 fn same_areas(image: &[u8], other: &[u8], s: Shape) -> bool
     requires { ⌜ (allowed s ≡ true) × (length (now image) ≡ total s) × (length (now other) ≡ total s) ⌝ }
-    ensures { λ r. ⌜ r ≡ same-areas s (now (image .entry)) (now (other .entry)) ⌝ }
+    ensures { λ r. ⌜ r ≡ same-areas s (view s (now (image .entry))) (view s (now (other .entry))) ⌝ }
 {
     let cells = s.blocks * s.size;
     let bank = recovery_at(s);

@@ -1,20 +1,21 @@
 -- What an allowed shape and an image in order give, as plain inequalities.
-use Prim.Native.Nat.{ℕ, _*_, _^_, _≤_, _<_}
+use Prim.Native.Nat.{ℕ, _+_, _*_, _^_, _≤_, _<_}
 use mathlib.Core.Path.{_≡_, refl, sym, _∙_, subst}
 use mathlib.Core.Bool.{Bool, true, false, _||_, cond}
 use mathlib.Core.List.{List}
 use mathlib.Core.Logic.{⊎-elim}
 use lib.Dec.{eqb, leb}
-use lib.ListN.{length}
+use lib.ListN.{length, getD}
 use lib.Pow.{pow-lt, pow-mono}
 use native.Mathlib.Omega.{arith}
 use native.Mathlib.Nat.{mul-le-mul}
 use borrow.Author.Tests.{eq-eqb, eqb-true, leb-true, leb-false, le-leb}
-use Rattle.protocol.specs.Lists.{every, any}
-use Rattle.protocol.specs.Image.{allowed, exponent, exponent-from, total, mark, byte, shape-of, in-order}
+use Rattle.boards.specs.Lists.{every, any}
+use Rattle.protocol.specs.Image.{allowed, exponent, exponent-from, total, mark, byte, shape-of, in-order, Tags, base}
+use Rattle.protocol.specs.Image.{size, view}
 use Rattle.protocol.specs.declared.Shape.{Shape}
-use Rattle.protocol.proofs.Basics.{decide, refute, and-true, any-some, some-any}
-use Rattle.protocol.proofs.Bridge.{Limits, limits, Sound}
+use Rattle.boards.proofs.Basics.{decide, refute, and-true, any-some, some-any}
+use Rattle.protocol.proofs.Bridge.{Limits, limits, Sound, view-at}
 
 -- ---- sizes
 
@@ -128,3 +129,8 @@ geometry-of {most} {image} e h = subst (λ t. Geometry most t image) (sym e) (ge
 -- an image is out of order if any of that fails
 pub disordered : {most : ℕ} {image : List ℕ} → (Geometry most (shape-of image) image → ⊥) → false ≡ in-order most image
 disordered {most} {image} h = sym (refute (in-order most image) (λ e. h (geometry e)))
+
+-- a block's tag in the image
+pub tag-read : (s : Shape) (x : List ℕ) (b : ℕ) → b < s .blocks → view s x Tags b ≡ getD x (12 + b) 0
+unfolding base size
+tag-read s x b l = view-at s x Tags b l

@@ -5,7 +5,7 @@ ghost use mathlib.Core.Bool.{true};
 ghost use Prim.Native.Nat.{_≤_};
 ghost use lib.Dec.{eqb};
 ghost use lib.ListN.{length, getD};
-ghost use Rattle.protocol.specs.Lists.{every};
+ghost use Rattle.boards.specs.Lists.{every};
 ghost use Rattle.protocol.specs.Image.{Current, Recovery, Tentative, Checkpoint, mark, header, byte};
 ghost use Rattle.protocol.specs.Image.{allowed, exponent, shape-of, in-order, base, total};
 

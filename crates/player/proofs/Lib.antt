@@ -1,3 +1,2 @@
-pub mod Laws
-pub mod Turning
+pub mod Quiet
 pub mod Uncut

@@ -9,23 +9,31 @@ use native.Mathlib.Nat.{mul-le-mul-right, mul-le-mul, mul-add}
 use lib.Dec.{eqb, ltb}
 use lib.ListN.{length, length-append, length-map}
 use borrow.Author.Tests.{eqb-true, ltb-true}
-use Rattle.protocol.specs.Lists.{for}
-use Rattle.protocol.specs.Boards.{has}
-use Rattle.protocol.specs.Image.{Memory, Store, Area, Decision, Tags, Current, Recovery, Tentative, put, after, allowed, total, in-order, shape-of, view, raw}
-use Rattle.protocol.specs.Volatile.{fresh, opened, depends, acknowledge}
-use Rattle.protocol.specs.Boards.{commit-group, fault-group}
-use Rattle.protocol.specs.Calls.{Call, Test, bad-range, Read, Write, Start, Acknowledge, Fault, Power-up, Plan, first, refusals, common, budget, plan, perform, executed, refused, tagging, placing, touched, tagged, tagged-in, blocks-copied, completing, deciding, completed-first, recovering, acknowledging, format, format-refusals, formatting, stored-group, test}
+use Rattle.boards.specs.Lists.{for}
+use Rattle.boards.specs.Boards.{has}
+use Rattle.protocol.specs.Image.{Memory, Store, Area, Decision, Tags, Current, Recovery, Tentative, put, after, allowed}
+use Rattle.protocol.specs.Image.{total, in-order, shape-of, view, raw}
+use Rattle.protocol.specs.Volatile.{fresh, opened, depends, commit-of, acknowledge}
+use Rattle.boards.specs.Boards.{commit-group, fault-group}
+use Rattle.protocol.specs.Accesses.{touched}
+use Rattle.protocol.specs.Calls.{Request, Test, Read, Write, Start, Acknowledge, Fault, Power-up, first, refusals}
+use Rattle.protocol.specs.Calls.{entry-tests}
+use Rattle.protocol.specs.Calls.{write-tests, start-tests, acknowledge-tests, plan, perform, executed, refused}
+use Rattle.protocol.specs.Calls.{tagging, placing, blocks-copied, completing, deciding, completed-first, recovering}
+use Rattle.protocol.specs.Calls.{acknowledging, format, format-tests, formatting, stored-group}
+use Rattle.boards.specs.Boards.{tagged, tagged-in}
 use Rattle.protocol.specs.declared.Shape.{Shape}
 use Rattle.protocol.specs.declared.Record.{Record}
-use Rattle.protocol.proofs.Basics.{decide, not-false}
+use Rattle.boards.proofs.Basics.{decide}
 use Rattle.protocol.proofs.Bridge.{Limits}
 use Rattle.protocol.proofs.Copies.{length-placing}
 use Rattle.protocol.proofs.Counts.{count, length-blocks, length-deciding}
 use Rattle.protocol.proofs.Format.{format-stores}
-use Rattle.protocol.proofs.Outcomes.{passed, uncut, refusals-uncut}
-use Rattle.protocol.proofs.Plans.{common-passed, ranged}
+use Rattle.protocol.proofs.Refusals.{uncut, refusals-uncut, Entered, entered, entry-first}
+use Rattle.protocol.proofs.Refusals.{write-passed, start-passed, acknowledge-passed, power-passed}
+use Rattle.protocol.proofs.Plans.{ranged}
 use Rattle.layout.proofs.Laws.{bounded, geometry}
-use Rattle.text.specs.Turns.{with-budget, uncut as most, Nothing-cut}
+use Rattle.text.specs.Turns.{uncut as most, Nothing-cut}
 
 count-most : (n : ℕ) (p : ℕ → Bool) → count n p ≤ n
 unfolding count
@@ -46,23 +54,25 @@ executed-cut k ss image g next bytes nine =
     (λ (e : ltb k (length ss) ≡ false). absurd (omega (arith, sym (ap (λ (b : Bool). cond b 9 0) e) ∙ nine)))
     (decide (ltb k (length ss)))
 
-cut-status : (image : List ℕ) (r : Record) (call : Call) → perform image r call .reply .answer .status ≡ 9 →
+cut-status : (image : List ℕ) (r : Record) (request : Request) (k : ℕ)
+    → perform image r request k .reply .answer .status ≡ 9 →
     let s = shape-of image in
     let m = view s image in
-    (first (refusals image s m r call) ≡ 0) × (budget call < length (plan s m r call .stores))
+    (first (refusals image s m r request) ≡ 0) × (k < length (plan s m r request .stores))
 unfolding perform refused
-cut-status image r call nine =
+cut-status image r request k nine =
     let s = shape-of image in
     let m = view s image in
-    let n = first (refusals image s m r call) in
-    let p = plan s m r call in
+    let n = first (refusals image s m r request) in
+    let p = plan s m r request in
     ⊎-elim
     (λ (e : eqb n 0 ≡ true). (
       eqb-true n 0 e,
       rw (sym (length-map (p .stores) (raw s)))
-          (executed-cut (budget call) (map (raw s) (p .stores)) image (p .group) (p .next) (p .bytes) (rw e at nine)),
+          (executed-cut k (map (raw s) (p .stores)) image (p .group) (p .next) (p .bytes) (rw e at nine)),
     ))
-    (λ (e : eqb n 0 ≡ false). absurd (uncut (refusals image s m r call) (refusals-uncut image s m r call) (rw e at nine)))
+    (λ (e : eqb n 0 ≡ false). absurd
+    (uncut (refusals image s m r request) (refusals-uncut image s m r request) (rw e at nine)))
     (decide (eqb n 0))
 
 -- ---- how many stores a call has
@@ -137,92 +147,76 @@ module _ (s : Shape) (l : Limits s) where
   unfolding acknowledging
   few-acknowledging m before i context h =
       let r = acknowledge before i in
-      let g = r .commit .members in
+      let g = commit-of r i .members in
       let given = placing Tentative (i * s .context) context in
       let rest = deciding s (after given m) g in
       omega (
         arith,
-        length-append given (cond (eqb (r .commit .acknowledged) g) rest []),
+        length-append given (cond (eqb (commit-of r i .acknowledged) g) rest []),
         length-placing Tentative (i * s .context) context,
-        either-none (eqb (r .commit .acknowledged) g) rest 18436 (few-deciding (after given m) g),
+        either-none (eqb (commit-of r i .acknowledged) g) rest 18436 (few-deciding (after given m) g),
       )
 
 -- ---- every call
 
--- a call that is taken has a shape within the limits
-shape-limits : (image : List ℕ) (r : Record) (i : ℕ) (ts : List Test) → first (common image r i ts) ≡ 0 → Limits (shape-of image)
-unfolding common
-shape-limits image r i ts e =
-    let one = passed (not (in-order 0 image)) 11 _ (omega arith) e in
-    geometry (not-false (in-order 0 image) (one .0)) .shape .limits
+-- a call that is taken has a shape within the limits, and passes its own tests
+taken : (image : List ℕ) (r : Record) (i : ℕ) (ts : List Test) → first (entry-tests image r i ++ ts) ≡ 0
+    → Limits (shape-of image) × (first ts ≡ 0)
+taken image r i ts e =
+    let both = entry-first image r i ts e in
+    (geometry (entered image r i refl (both .0) .ordered) .shape .limits, both .1)
 
--- what follows the common tests
-after-common : (image : List ℕ) (r : Record) (i : ℕ) (ts : List Test) → first (common image r i ts) ≡ 0 → first ts ≡ 0
-after-common image r i ts e = common-passed image r i ts refl e .rest
-
-few-stores : (image : List ℕ) (r : Record) (call : Call) →
+few-stores : (image : List ℕ) (r : Record) (request : Request) →
     let s = shape-of image in
     let m = view s image in
-    first (refusals image s m r call) ≡ 0 → length (plan s m r call .stores) ≤ 65535
+    first (refusals image s m r request) ≡ 0 → length (plan s m r request .stores) ≤ 65535
 unfolding refusals plan
 few-stores image r (Read i a n room) e = omega arith
-few-stores image r (Write i a bytes k) e =
+few-stores image r (Write i a bytes) e =
     let s = shape-of image in
     let m = view s image in
-    let l = shape-limits image r i _ e in
+    let ok = taken image r i (write-tests s m r i a (length bytes)) e in
     let tags = tagging m i (touched s a (length bytes)) in
-    let two = passed (bad-range s a (length bytes)) 2 _ (omega arith) (after-common image r i _ e) in
     omega (
       arith,
       length-append tags (placing Current a bytes),
       few-tags m i (touched s a (length bytes)),
       few-touched s a (length bytes),
       length-placing Current a bytes,
-      ranged s a (length bytes) (two .0) .few,
-      l .most-size,
+      ranged s a (length bytes) (write-passed s m r i a (length bytes) (ok .1) .range) .few,
+      ok .0 .most-size,
     )
-few-stores image r (Start i context k) e =
+few-stores image r (Start i context) e =
     let s = shape-of image in
-    let l = shape-limits image r i _ e in
-    let three = passed (not (eqb (length context) (s .context))) 3 _ (omega arith) (after-common image r i _ e) in
-    let same = eqb-true (length context) (s .context) (not-false _ (three .0)) in
+    let ok = taken image r i (start-tests s r (length context)) e in
+    let full = start-passed s r (length context) (ok .1) .full in
     omega (
       arith,
-      few-acknowledging s l (view s image) (opened r i (commit-group (depends r) i)) i context
-          (omega (arith, same, l .most-context)),
+      few-acknowledging s (ok .0) (view s image) (opened r i (commit-group (depends r) i)) i context
+          (omega (arith, full, ok .0 .most-context)),
     )
-few-stores image r (Acknowledge i context k) e =
+few-stores image r (Acknowledge i context) e =
     let s = shape-of image in
-    let l = shape-limits image r i _ e in
-    let three = passed (not (eqb (length context) (s .context))) 3 _ (omega arith) (after-common image r i _ e) in
-    let same = eqb-true (length context) (s .context) (not-false _ (three .0)) in
-    omega (arith, few-acknowledging s l (view s image) r i context (omega (arith, same, l .most-context)))
-few-stores image r (Fault i k) e =
+    let ok = taken image r i (acknowledge-tests s r i (length context)) e in
+    let full = acknowledge-passed s r i (length context) (ok .1) .full in
+    omega (arith, few-acknowledging s (ok .0) (view s image) r i context (omega (arith, full, ok .0 .most-context)))
+few-stores image r (Fault i) e =
     let s = shape-of image in
-    omega
-    (arith, few-blocks s (shape-limits image r i _ e) (view s image) Recovery Current (tagged-in (fault-group (depends r) i)))
-few-stores image r (Power-up k) e =
-    let one = passed (not (in-order 1 image)) 11 _ (omega arith) e in
-    let l = geometry (not-false (in-order 1 image) (one .0)) .shape .limits in
-    omega (arith, few-recovering (shape-of image) l (view (shape-of image) image))
+    let l = geometry (entered image r i refl e .ordered) .shape .limits in
+    omega (arith, few-blocks s l (view s image) Recovery Current (tagged-in (fault-group (depends r) i)))
+few-stores image r Power-up e =
+    let s = shape-of image in
+    let l = geometry (power-passed image s (view s image) e .ordered) .shape .limits in
+    omega (arith, few-recovering s l (view s image))
 
 -- so a call with that budget is not cut
-enough : (image : List ℕ) (r : Record) (call : Call) → 65535 ≤ budget call → perform image r call .reply .answer .status ≢ 9
-enough image r call h nine =
-    let cut = cut-status image r call nine in
-    omega (arith, cut .1, few-stores image r call (cut .0))
-
-none-cut : (image : List ℕ) (r : Record) (call : Call) → perform image r (with-budget most call) .reply .answer .status ≢ 9
-unfolding with-budget budget plan
-none-cut image r (Read i a n room) nine = omega (arith, cut-status image r (Read i a n room) nine .1)
-none-cut image r (Write i a bytes k) nine = enough image r (Write i a bytes most) (omega arith) nine
-none-cut image r (Start i context k) nine = enough image r (Start i context most) (omega arith) nine
-none-cut image r (Acknowledge i context k) nine = enough image r (Acknowledge i context most) (omega arith) nine
-none-cut image r (Fault i k) nine = enough image r (Fault i most) (omega arith) nine
-none-cut image r (Power-up k) nine = enough image r (Power-up most) (omega arith) nine
+none-cut : (image : List ℕ) (r : Record) (request : Request) → perform image r request most .reply .answer .status ≢ 9
+none-cut image r request nine =
+    let cut = cut-status image r request most nine in
+    omega (arith, cut .1, few-stores image r request (cut .0))
 
 format-uncut : (s : Shape) (image : List ℕ) (r : Record) → format s image r most .reply .answer .status ≢ 9
-unfolding format format-refusals refused first
+unfolding format format-tests refused first
 format-uncut s image r nine =
     ⊎-elim
     (λ (e : allowed s ≡ true).

@@ -3,133 +3,30 @@ use access::read;
 use access::write;
 use commit::acknowledge;
 use commit::start;
+use format::format;
 use layout::allowed;
 use layout::total;
-use printing::put_row;
-use protocol::Answer;
 use protocol::Record;
 use protocol::Reply;
 use protocol::Shape;
 use recovery::fault;
 use recovery::power_up;
-use setup::format;
 use text::Parsed;
+use turns::Session;
+use turns::Turned;
+use turns::UNCUT;
+use turns::answered;
+use turns::end_turn;
+use turns::tell;
 ghost use mathlib.Core.Path.{_≡_};
-ghost use mathlib.Core.Bool.{cond};
-ghost use mathlib.Core.List.{List, []};
-ghost use Prim.Native.Nat.{ℕ, _+_, _≤_};
-ghost use lib.Dec.{eqb};
-ghost use lib.ListN.{length, take, drop, replicate};
-ghost use Rattle.protocol.specs.declared.Record.{Record as State};
-ghost use Rattle.protocol.specs.Calls.{perform, Read, Write, Start, Acknowledge, Fault, Power-up};
-ghost use Rattle.text.specs.Events.{Format, Make, Allow, Unreadable, room, counted, meant};
-ghost use Rattle.text.specs.Turns.{ended, told, uncut, play};
-ghost use Rattle.answers.specs.Promise.{Formatted, Performed};
-ghost use Rattle.player.specs.Turned.{player-of, Ready, Turns, Powered, call-of};
-
-// More than any call stores.
-const UNCUT: usize = 65535;
-
-// What stands between two lines: the image's length in its area, the record, the allowance of the next line.
-pub struct Session {
-    pub length: usize,
-    pub state: Record,
-    pub k: usize,
-}
-
-// The next session, and where the output goes on.
-pub struct Turned {
-    pub next: Session,
-    pub at: usize,
-}
-
-// The image is powered up, uncut, and that row is written.
-fn power_turn(
-    area: &mut [u8],
-    size: usize,
-    none: &[u8],
-    number: usize,
-    out: &mut [u8],
-    at: usize,
-) -> Turned
-    requires { ⌜ (size ≤ length (now area)) × (at + 160 ≤ length (now out)) ⌝ }
-    ensures { λ r. ⌜ ((state : State) → Powered (perform (take size (now (area .entry))) state (Power-up uncut))
-        size number at (now (out .entry)) r (now (area .exit)) (now (out .exit))) ⌝ }
-{
-    let up = power_up(&mut area[0..size], UNCUT);
-    let answer = up.answer;
-    let state = up.next;
-    let end = put_row(out, at, number, b'U', answer, &none[0..0]);
-    let next = Session {
-        length: size,
-        state,
-        k: UNCUT,
-    };
-    Turned { next, at: end }
-}
-
-// A call's row; after a cut the power-up follows.
-fn end_turn(
-    area: &mut [u8],
-    size: usize,
-    reply: Reply,
-    letter: u8,
-    bytes: &[u8],
-    number: usize,
-    out: &mut [u8],
-    at: usize,
-) -> Turned
-    requires { ⌜ (size ≤ 35852) × (35852 ≤ length (now area)) × (length (now bytes) ≤ 64)
-        × (at + 320 ≤ length (now out)) ⌝ }
-    ensures { λ r. ⌜ Turns
-        (ended letter (record { reply = reply; image = take size (now (area .entry)); bytes = now (bytes .entry) })) number at
-        (now (out .entry)) r (now (area .exit)) (now (out .exit)) ⌝ }
-{
-    let answer = reply.answer;
-    let state = reply.next;
-    let end = put_row(out, at, number, letter, answer, bytes);
-    if answer.status == 9 {
-        return power_turn(area, size, bytes, number, out, end);
-    }
-    let next = Session {
-        length: size,
-        state,
-        k: UNCUT,
-    };
-    Turned { next, at: end }
-}
-
-// The row of a line that makes no call; k is the allowance of the next line.
-fn tell(
-    p: Session,
-    letter: u8,
-    status: u8,
-    k: usize,
-    none: &[u8],
-    number: usize,
-    out: &mut [u8],
-    at: usize,
-) -> Turned
-    requires { ⌜ (p .length ≤ 35852) × (at + 320 ≤ length (now out)) ⌝ }
-    ensures { λ r. ⌜ ((area : List ℕ) →
-        Turns (told letter status (record { image = take (p .length) area; state = p .state; k = k })) number at
-        (now (out .entry)) r area (now (out .exit))) ⌝ }
-{
-    let answer = Answer {
-        status,
-        decided: false,
-        group: 0,
-        stores: 0,
-    };
-    let end = put_row(out, at, number, letter, answer, &none[0..0]);
-    let state = p.state;
-    let next = Session {
-        length: p.length,
-        state,
-        k,
-    };
-    Turned { next, at: end }
-}
+ghost use Prim.Native.Nat.{_≤_};
+ghost use lib.ListN.{length, take, replicate};
+ghost use Rattle.protocol.specs.Calls.{perform, Read};
+ghost use Rattle.text.specs.Events.{Format, Make, room, counted, meant};
+ghost use Rattle.text.specs.Turns.{ended, play};
+ghost use Rattle.store.specs.Promise.{Formatted, Performed};
+ghost use Rattle.turns.specs.Turned.{player-of, Ready, Turns};
+ghost use Rattle.player.specs.Requests.{request-of};
 
 // A buffer becomes zeros.
 fn clear(s: &mut [u8])
@@ -176,13 +73,6 @@ fn play_format(
     end_turn(area, size, reply, b'F', &none[0..0], number, out, at)
 }
 
-// The bytes that a read answered: all or none.
-fn answered(status: u8, n: usize) -> usize
-    ensures { λ r. ⌜ r ≡ cond (eqb status 0) n 0 ⌝ }
-{
-    if status == 0 { n } else { 0 }
-}
-
 fn play_read(
     area: &mut [u8],
     p: Session,
@@ -224,7 +114,7 @@ fn store_call(
     bytes: &[u8],
     k: usize,
 ) -> Reply
-    ensures { λ r. ⌜ Performed (call-of letter board cell (now (bytes .entry)) k) (now (image .entry)) state
+    ensures { λ r. ⌜ Performed (request-of letter board cell (now (bytes .entry))) k (now (image .entry)) state
         r (now (image .exit)) ⌝ }
 {
     if letter == b'W' {
@@ -256,7 +146,7 @@ fn play_call(
 ) -> Turned
     requires { ⌜ Ready p at (now area) (now out) ⌝ }
     ensures { λ r. ⌜ Turns (ended letter (perform (take (p .length) (now (area .entry))) (p .state)
-        (call-of letter board cell (now (bytes .entry)) (p .k)))) number at
+        (request-of letter board cell (now (bytes .entry))) (p .k))) number at
         (now (out .entry)) r (now (area .exit)) (now (out .exit)) ⌝ }
 {
     let length = p.length;

@@ -10,7 +10,7 @@ use native.Mathlib.Omega.{arith}
 use native.Mathlib.Nat.{add-zero, add-assoc}
 use native.Mathlib.Numerals.{add-one}
 use borrow.Author.Tests.{le-leb, lt-leb}
-use Rattle.protocol.proofs.Basics.{if-true, if-false}
+use Rattle.boards.proofs.Basics.{if-true, if-false}
 use Rattle.protocol.specs.declared.Answer.{Answer}
 use Rattle.text.specs.Rows.{digit-at, decimal, byte-text, bytes-text, group-text, row-text}
 use Rattle.printing.specs.Append.{placed, Appends}

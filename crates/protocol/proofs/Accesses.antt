@@ -3,17 +3,17 @@ use Prim.Native.Nat.{ℕ, zero, suc, _+_, _-_, _/_, _≤_, _<_}
 use native.Mathlib.Nat.{le-div-iff-mul-le, div-lt-iff-lt-mul, div-mul-le-self, lt-div-mul-add, le-trans}
 use mathlib.Core.Path.{_≡_, refl, sym, _∙_, ap, subst}
 use mathlib.Core.Bool.{Bool, true, false}
-use mathlib.Core.List.{List, [], _∷_, map}
+use mathlib.Core.List.{List, [], _∷_}
 use mathlib.Core.Logic.{⊎-elim}
 use lib.Dec.{eqb}
 use native.Mathlib.Omega.{arith}
 use borrow.Author.Tests.{eq-eqb, eqb-true, eqb-false}
-use Rattle.protocol.specs.Lists.{anyOf}
-use Rattle.protocol.specs.Boards.{Links, link, Binding, one-way, two-way, bind-boards, bind-tag, bind-tags, Chain, step}
-use Rattle.protocol.specs.Calls.{touched}
+use Rattle.boards.specs.Lists.{anyOf}
+use Rattle.boards.specs.Boards.{Links, link, Chain, step}
+use Rattle.protocol.specs.Accesses.{touched, Binding, one-way, two-way, bind-boards, bind-tag, bind-blocks}
 use Rattle.protocol.specs.declared.Shape.{Shape}
-use Rattle.protocol.proofs.Basics.{decide, clash, or-true, or-right, true-or, All, none, also, all-map}
-use Rattle.protocol.proofs.Groups.{Forward, Bounded, chain-more, chain-last, link-new, link-old, link-cases, link-bounded}
+use Rattle.boards.proofs.Basics.{decide, clash, or-true, or-right, true-or, All, none, also, all-map}
+use Rattle.boards.proofs.Groups.{Forward, Bounded, chain-more, chain-last, link-new, link-old, link-cases, link-bounded}
 use Rattle.protocol.proofs.Marks.{To, to, From, from}
 
 -- ---- touched blocks
@@ -50,17 +50,16 @@ cell-touched s a n c pos small lo hi =
     (decide (eqb q first))
 
 -- a fact of all elements is one of each that is found
-pub all-found : {P : ℕ → Type 0} (f : ℕ → ℕ) (b : ℕ) (bs : List ℕ) → All P (map f bs) → anyOf (eqb b) bs ≡ true
-    → P (f b)
+pub all-found : {P : ℕ → Type 0} (b : ℕ) (bs : List ℕ) → All P bs → anyOf (eqb b) bs ≡ true → P b
 unfolding anyOf
-all-found f b [] none e = clash e refl
-all-found {P} f b (c ∷ bs) (also h hs) e =
+all-found b [] none e = clash e refl
+all-found {P} b (c ∷ bs) (also h hs) e =
     ⊎-elim
-    (λ (i : eqb b c ≡ true). subst (λ x. P (f x)) (sym (eqb-true b c i)) h)
-    (λ (i : anyOf (eqb b) bs ≡ true). all-found f b bs hs i)
+    (λ (i : eqb b c ≡ true). subst P (sym (eqb-true b c i)) h)
+    (λ (i : anyOf (eqb b) bs ≡ true). all-found b bs hs i)
     (or-true (eqb b c) (anyOf (eqb b) bs) e)
 
--- ---- links made by an access of board i to blocks with these tags
+-- ---- links made by an access of board i to blocks with given bindings and tags
 
 -- no link is lost
 tie-wider : (how : Binding) (d : Links) (i j a b : ℕ) → d a b ≡ true → bind-boards link how d i j a b ≡ true
@@ -74,11 +73,12 @@ bind-wider how d i zero a b h = h
 bind-wider how d i (suc j) a b h =
     ⊎-elim (λ (e : eqb i j ≡ true). rw e h) (λ (e : eqb i j ≡ false). rw e (tie-wider how d i j a b h)) (decide (eqb i j))
 
-pub binds-wider : (how : Binding) (d : Links) (i : ℕ) (ts : List ℕ) (a b : ℕ) → d a b ≡ true
-    → bind-tags link how d i ts a b ≡ true
-unfolding bind-tags
-binds-wider how d i [] a b h = h
-binds-wider how d i (t ∷ ts) a b h = binds-wider how (bind-tag link how d i t) i ts a b (bind-wider how d i t a b h)
+pub binds-wider : (how : ℕ → Binding) (tag : ℕ → ℕ) (d : Links) (i : ℕ) (bs : List ℕ) (a b : ℕ) → d a b ≡ true
+    → bind-blocks link how tag d i bs a b ≡ true
+unfolding bind-blocks
+binds-wider how tag d i [] a b h = h
+binds-wider how tag d i (c ∷ bs) a b h =
+    binds-wider how tag (bind-tag link (how c) d i (tag c)) i bs a b (bind-wider (how c) d i (tag c) a b h)
 
 -- the board comes to reach all that a tag's board reaches; after a write, what reaches a tag's board reaches the board
 tie-forth : (how : Binding) (d : Links) (i j : ℕ) → bind-boards link how d i j i j ≡ true
@@ -112,25 +112,26 @@ from-more wider (from c) = from (chain-more wider c)
 pub to-more : {d e : Links} {m t : ℕ} → ((a b : ℕ) → d a b ≡ true → e a b ≡ true) → To d m t → To e m t
 to-more wider (to c) = to (chain-more wider c)
 
-pub binds-from : (how : Binding) (d : Links) (i : ℕ) (ts : List ℕ)
-    → All (λ t. (m : ℕ) → From d m t → Chain (bind-tags link how d i ts) i m) ts
-unfolding bind-tags
-binds-from how d i [] = none
-binds-from how d i (t ∷ ts) =
-    let e = bind-tag link how d i t in
+pub binds-from : (how : ℕ → Binding) (tag : ℕ → ℕ) (d : Links) (i : ℕ) (bs : List ℕ)
+    → All (λ b. (m : ℕ) → From d m (tag b) → Chain (bind-blocks link how tag d i bs) i m) bs
+unfolding bind-blocks
+binds-from how tag d i [] = none
+binds-from how tag d i (b ∷ bs) =
+    let e = bind-tag link (how b) d i (tag b) in
     also
-    (λ m h. chain-more (binds-wider how e i ts) (bind-from how d i t m h))
-    (all-map (λ x f m h. f m (from-more (bind-wider how d i t) h)) (binds-from how e i ts))
+    (λ m h. chain-more (binds-wider how tag e i bs) (bind-from (how b) d i (tag b) m h))
+    (all-map (λ x f m h. f m (from-more (bind-wider (how b) d i (tag b)) h)) (binds-from how tag e i bs))
 
-pub binds-to : (d : Links) (i : ℕ) (ts : List ℕ)
-    → All (λ t. (m : ℕ) → To d m t → Chain (bind-tags link two-way d i ts) m i) ts
-unfolding bind-tags
-binds-to d i [] = none
-binds-to d i (t ∷ ts) =
-    let e = bind-tag link two-way d i t in
+pub binds-to : (how : ℕ → Binding) (tag : ℕ → ℕ) (d : Links) (i : ℕ) (bs : List ℕ)
+    → All (λ b. how b ≡ two-way → (m : ℕ) → To d m (tag b) → Chain (bind-blocks link how tag d i bs) m i) bs
+unfolding bind-blocks
+binds-to how tag d i [] = none
+binds-to how tag d i (b ∷ bs) =
+    let e = bind-tag link (how b) d i (tag b) in
     also
-    (λ m h. chain-more (binds-wider two-way e i ts) (bind-to d i t m h))
-    (all-map (λ x f m h. f m (to-more (bind-wider two-way d i t) h)) (binds-to e i ts))
+    (λ w m h. chain-more (binds-wider how tag e i bs)
+    (subst (λ k. Chain (bind-tag link k d i (tag b)) m i) (sym w) (bind-to d i (tag b) m h)))
+    (all-map (λ x f w m h. f w m (to-more (bind-wider (how b) d i (tag b)) h)) (binds-to how tag e i bs))
 
 -- links stay between boards below n
 module _ {n : ℕ} {i : ℕ} (small : i < n) where
@@ -145,12 +146,12 @@ module _ {n : ℕ} {i : ℕ} (small : i < n) where
       (λ (e : eqb i j ≡ false). rw e (link-bounded (link-bounded h small l) l small))
       (decide (eqb i j))
 
-  pub binds-bounded : (how : Binding) (d : Links) (ts : List ℕ) → All (λ t. t ≤ n) ts → Bounded n d
-      → Bounded n (bind-tags link how d i ts)
-  unfolding bind-tags
-  binds-bounded how d [] none h = h
-  binds-bounded how d (t ∷ ts) (also l ls) h = binds-bounded how (bind-tag link how d i t) ts ls
-      (bind-bounded how d t l h)
+  pub binds-bounded : (how : ℕ → Binding) (tag : ℕ → ℕ) (d : Links) (bs : List ℕ) → ((b : ℕ) → tag b ≤ n) → Bounded n d
+      → Bounded n (bind-blocks link how tag d i bs)
+  unfolding bind-blocks
+  binds-bounded how tag d [] l h = h
+  binds-bounded how tag d (b ∷ bs) l h =
+      binds-bounded how tag (bind-tag link (how b) d i (tag b)) bs l (bind-bounded (how b) d (tag b) (l b) h)
 
 -- a set closed under dependence stays so, if the board is not in it and, after a write, no tag names one of it
 link-forward : {p : ℕ → Bool} {d : Links} (i j : ℕ) → p i ≡ false → Forward p d → Forward p (link d i j)
@@ -178,9 +179,9 @@ bind-forward i (suc j) out (writing q) f =
     (λ (e : eqb i j ≡ false). rw e (link-forward j i q (link-forward i j out f)))
     (decide (eqb i j))
 
-pub binds-forward : {p : ℕ → Bool} {how : Binding} {d : Links} (i : ℕ) (ts : List ℕ) → p i ≡ false
-    → All (Outside p how) ts → Forward p d
-    → Forward p (bind-tags link how d i ts)
-unfolding bind-tags
+pub binds-forward : {p : ℕ → Bool} {how : ℕ → Binding} {tag : ℕ → ℕ} {d : Links} (i : ℕ) (bs : List ℕ) → p i ≡ false
+    → All (λ b. Outside p (how b) (tag b)) bs → Forward p d
+    → Forward p (bind-blocks link how tag d i bs)
+unfolding bind-blocks
 binds-forward i [] out none f = f
-binds-forward i (t ∷ ts) out (also o os) f = binds-forward i ts out os (bind-forward i t out o f)
+binds-forward {tag = tag} i (b ∷ bs) out (also o os) f = binds-forward i bs out os (bind-forward i (tag b) out o f)

@@ -9,21 +9,24 @@ use lib.ListN.{length, take, length-append}
 use lib.Seq.{take-all}
 use native.Mathlib.Omega.{arith}
 use borrow.Author.Tests.{eqb-true, ne-eqb, leb-true, leb-false, le-leb, lt-leb}
-use Rattle.protocol.specs.Lists.{anyOf}
-use Rattle.protocol.specs.Boards.{has, with-board}
+use Rattle.boards.specs.Lists.{anyOf}
+use Rattle.boards.specs.Boards.{has, with-board}
 use Rattle.protocol.specs.Image.{Memory, Put, Tentative, after, view}
-use Rattle.protocol.specs.Volatile.{clear, acknowledge}
+use Rattle.protocol.specs.Volatile.{commit-of, clear, acknowledge}
 use Rattle.protocol.specs.Calls.{Plan, Outcome, placing, acknowledging}
-use Rattle.protocol.specs.Ledger.{Ledger, done, cut, with-context, complete, decided-by, decides-now, decided, acknowledged, members-of, all-undone}
+use Rattle.protocol.specs.Ledger.{Ledger, done, cut, with-context, complete, decided-by, decides-now, decided}
+use Rattle.protocol.specs.Ledger.{acknowledged, members-of, all-undone}
 use Rattle.protocol.specs.Claim.{Commits}
 use Rattle.protocol.specs.declared.Shape.{Shape}
 use Rattle.protocol.specs.declared.Record.{Record}
-use Rattle.protocol.proofs.Basics.{decide, All, all-append, all-take}
+use Rattle.boards.proofs.Basics.{decide, All, all-append, all-take}
 use Rattle.protocol.proofs.Bridge.{Valid}
 use Rattle.protocol.proofs.Copies.{placing-other}
-use Rattle.protocol.proofs.Safety.{Idle, Safe, idle, deciding-stores, before-decision, after-decision, decision-done, stores-parts, announced, announced-length, idle-same}
+use Rattle.protocol.proofs.Safety.{Idle, Safe, idle, deciding-stores, before-decision, after-decision}
+use Rattle.protocol.proofs.Safety.{decision-done, stores-parts, announced, announced-length, idle-same}
 use Rattle.protocol.proofs.Outcomes.{decisive, Finished, Stopped, cut-not-done}
-use Rattle.protocol.proofs.Plans.{inside-valid, given-inside, deciding-valid, inside-indecisive, undecided-before, decided-after}
+use Rattle.protocol.proofs.Plans.{inside-valid, given-inside, deciding-valid, inside-indecisive}
+use Rattle.protocol.proofs.Plans.{undecided-before, decided-after}
 use Rattle.protocol.proofs.Agreement.{On, Off, off-undone, on-idle, agrees-none, kept-cell}
 use Rattle.protocol.proofs.Commits.{the-commit, handed-commits, given-on, decision-safe, decided-on}
 
@@ -51,19 +54,19 @@ module _ {s : Shape} {m : Memory} {r : Record} {l : Ledger} (h : On s m r l) (mo
     -- ---- the plan, by whether everybody has acknowledged
 
     some-stores : everybody ≡ false → the-plan .stores ≡ given-puts
-    unfolding acknowledging acknowledge
+    unfolding acknowledging commit-of acknowledge
     some-stores e = rw e (append-nil given-puts)
 
     all-stores : everybody ≡ true → the-plan .stores ≡ deciding-stores s m i g context
-    unfolding acknowledging acknowledge
+    unfolding acknowledging commit-of acknowledge
     all-stores e = rw e
 
     some-next : everybody ≡ false → the-plan .next ≡ acknowledge r i
-    unfolding acknowledging acknowledge
+    unfolding acknowledging commit-of acknowledge
     some-next e = rw e
 
     all-next : everybody ≡ true → the-plan .next ≡ clear (acknowledge r i) g
-    unfolding acknowledging acknowledge
+    unfolding acknowledging commit-of acknowledge
     all-next e = rw e
 
     pub stores-valid : All (Valid s) (the-plan .stores)
@@ -76,7 +79,7 @@ module _ {s : Shape} {m : Memory} {r : Record} {l : Ledger} (h : On s m r l) (mo
 
     -- the members, by the plan and by the ledger
     plan-group : the-plan .group ≡ members-of i (l .commits)
-    unfolding acknowledging acknowledge members-of
+    unfolding acknowledging commit-of acknowledge members-of
     plan-group = rw (the-commit h most positive board member context full .0, member)
 
     -- ---- what the ledger decides

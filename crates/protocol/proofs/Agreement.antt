@@ -6,18 +6,20 @@ use mathlib.Core.List.{List, [], _∷_, map}
 use mathlib.Core.Logic.{⊎-elim, _≢_}
 use lib.ListN.{length, getD}
 use native.Mathlib.Omega.{arith}
-use Rattle.protocol.specs.Lists.{select}
-use Rattle.protocol.specs.Boards.{has, meets, Links, unlink}
+use Rattle.boards.specs.Lists.{select}
+use Rattle.boards.specs.Boards.{has, meets, tagged-in, Links, unlinked, unlink}
 use Rattle.protocol.specs.Image.{Decision, Tags, Current, Recovery, Tentative, Checkpoint, Memory, cells}
-use Rattle.protocol.specs.Volatile.{closed, fresh, depends, clear}
-use Rattle.protocol.specs.Calls.{tagged-in}
-use Rattle.protocol.specs.Ledger.{kept, undone, Commit, Ledger, writer, cleared, all-undone}
+use Rattle.protocol.specs.Volatile.{closed, fresh, depends, left-open, clear}
+use Rattle.protocol.specs.Ledger.{kept, undone, Open-commit, Ledger, writer, cleared, all-undone}
 use Rattle.protocol.specs.declared.Shape.{Shape}
 use Rattle.protocol.specs.declared.Record.{Record}
-use Rattle.protocol.specs.declared.Open.{Open}
-use Rattle.protocol.proofs.Basics.{decide, clash, refute, none}
-use Rattle.protocol.proofs.Groups.{Forward, Backward, links-ext, depends-fresh, has-zero, has-none, meets-no}
-use Rattle.protocol.proofs.Marks.{Mark, gone, waits, fixed, mark, marks, live, saved, To, to, Above, Kept-order, settle, untag, tag-in, marks-settled, writer-settled, undoes, commit-live, rollback-live, rollback-saved}
+use Rattle.protocol.specs.declared.Commit.{Commit}
+use Rattle.boards.proofs.Basics.{decide, clash, refute, none}
+use Rattle.boards.proofs.Groups.{Forward, Backward, links-ext, has-zero, has-none, meets-no}
+use Rattle.protocol.proofs.Records.{depends-fresh}
+use Rattle.protocol.proofs.Marks.{Mark, gone, waits, fixed, mark, marks, live, saved, To, to, Above, Kept-order}
+use Rattle.protocol.proofs.Marks.{settle, untag, tag-in, marks-settled, writer-settled, undoes, commit-live}
+use Rattle.protocol.proofs.Marks.{rollback-live, rollback-saved}
 use Rattle.protocol.proofs.Consistent.{Consistent, writer-below, undone-all}
 use Rattle.protocol.proofs.Safety.{Idle, Safe, Clean, block-below}
 
@@ -93,7 +95,7 @@ pub record Some-boards (p g : ℕ) : Type 0 where
   pub small : g < 2 ^ 16
   pub below : (j : ℕ) → has g j ≡ true → j < p
 
-pub data Agrees (p : ℕ) (c : Open) : List Commit → Type 0 where
+pub data Agrees (p : ℕ) (c : Commit) : List Open-commit → Type 0 where
   nobody : c .members ≡ 0 → c .acknowledged ≡ 0 → Agrees p c []
   somebody : Some-boards p (c .members)
       → Agrees p c (record { members = c .members; acknowledged = c .acknowledged } ∷ [])
@@ -109,9 +111,9 @@ meets-all {p} {g} h q f =
     (decide (meets g q))
 
 -- the commits after boards are cleared
-pub agrees-clear : {p : ℕ} (r : Record) (g : ℕ) {cs : List Commit} → Agrees p (r .commit) cs
+pub agrees-clear : {p : ℕ} (r : Record) (g : ℕ) {cs : List Open-commit} → Agrees p (r .commit) cs
     → Agrees p (clear r g .commit) (select (λ c. not (meets (c .members) (has g))) cs)
-unfolding clear select closed
+unfolding clear left-open select closed
 agrees-clear r g (nobody e f) =
     ⊎-elim
     (λ (h : meets (r .commit .members) (has g) ≡ true). rw h (nobody refl refl))
@@ -123,7 +125,7 @@ agrees-clear r g (somebody b) =
     (λ (h : meets (r .commit .members) (has g) ≡ false). rw h (somebody b))
     (decide (meets (r .commit .members) (has g)))
 
-pub agrees-none : {p : ℕ} {c : Open} {cs : List Commit} → Agrees p c cs
+pub agrees-none : {p : ℕ} {c : Commit} {cs : List Open-commit} → Agrees p c cs
     → select (λ c. not (meets (c .members) (λ i. true))) cs ≡ []
 unfolding select
 agrees-none (nobody e f) = refl
@@ -185,11 +187,11 @@ off-undone {s} {m} {l} c h dropped lengths =
 pub powered : {s : Shape} {m : Memory} {l : Ledger} → 0 < s .size → Consistent s l → Clean s (kept-cell l) (l .kept) m
     → select (λ c. not (meets (c .members) (λ i. true))) (l .commits) ≡ []
     → ((i : ℕ) → (length (l .given i) ≡ s .context) × (length (l .kept i) ≡ s .context)) → On s m fresh (all-undone l)
-unfolding all-undone cleared fresh closed unlink
+unfolding all-undone cleared fresh closed unlink unlinked
 powered {s} {m} {l} positive c h dropped lengths =
     record {
       consistent = undone-all c;
-      links = links-ext depends-fresh;
+      links = depends-fresh ∙ links-ext (λ a b. refl);
       undecided = h .calm .undecided;
       tags = λ b k. h .untagged b k ∙ sym (writer-settled s (λ i. true) undoes (l .notes) b ∙ untag-all
           (writer s (l .notes) b));

@@ -11,12 +11,16 @@ use lib.Pow.{pow-pos, pow-mono}
 use native.Mathlib.Omega.{arith}
 use native.Mathlib.Nat.{add-suc, not-suc-le-zero, mul-le-mul-right, suc-mul}
 use borrow.Author.Tests.{eq-eqb, ne-eqb, eqb-true, leb-true, lt-leb, lt-ltb, le-ltb, ltb-true, ltb-false}
-use Rattle.protocol.specs.Lists.{span, every, any}
-use Rattle.protocol.specs.Image.{Area, Header, Decision, Group, Tags, Current, Recovery, Tentative, Checkpoint, Memory, contexts, allowed, total, base, size, rank, mark, byte, shape-of, in-order, view, Store, made, Put, put, raw, change, after}
-use Rattle.protocol.specs.Calls.{decides, first, context-status, context-part}
+use Rattle.boards.specs.Lists.{span, every, any}
+use Rattle.protocol.specs.Image.{Area, Header, Decision, Group, Tags, Current, Recovery, Tentative, Checkpoint}
+use Rattle.protocol.specs.Image.{Memory, contexts, allowed, total, base, size, rank, mark, byte, shape-of}
+use Rattle.protocol.specs.Image.{in-order, view, Store, made, Put, put, raw, change, after}
+use Rattle.protocol.specs.Calls.{decides, first, context-tests, context-status, context-part}
 use Rattle.protocol.specs.declared.Shape.{Shape}
-use Rattle.protocol.proofs.Basics.{decide, clash, and-true, true-and, test-ext, if-true, if-false, eqb-same, below-suc, every-at, every-all, any-some, All, none, also, all-take, take-append, take-map}
-use Rattle.protocol.proofs.Memory.{Away, after-append, after-local, change-area, change-away, change-index, change-same, else-area, else-index, untouched}
+use Rattle.boards.proofs.Basics.{decide, clash, and-true, true-and, test-ext, if-true, if-false, eqb-same, below-suc}
+use Rattle.boards.proofs.Basics.{every-at, every-all, any-some, All, none, also, all-take, take-append, take-map}
+use Rattle.protocol.proofs.Memory.{Away, after-append, after-local, change-area, change-away, change-index}
+use Rattle.protocol.proofs.Memory.{change-same, else-area, else-index, untouched}
 
 -- what is equal to either arm of a choice where that arm is taken
 either : {X : Type 0} (b : Bool) {x y z : X} → (b ≡ true → z ≡ x) → (b ≡ false → z ≡ y) → z ≡ cond b x y
@@ -277,7 +281,7 @@ made-sound {image} h vs =
 -- Context answers the board's part of the recovery contexts
 pub context-of : {s : Shape} {image : List ℕ} → Sound s image → byte image 9 ≡ 0 → (i : ℕ) → i < s .boards →
     (context-status image i ≡ 0) × (context-part image i ≡ span (view s image Checkpoint) (i * s .context) (s .context))
-unfolding context-status context-part first size
+unfolding context-tests context-part first size
 context-of {s} {image} h z i l =
     let k = s .context in
     let within : i * k + k ≤ contexts s = omega (arith, suc-mul i k, mul-le-mul-right k l) in

@@ -9,31 +9,37 @@ use lib.ListN.{length, getD}
 use lib.Seq.{take-all}
 use native.Mathlib.Omega.{arith}
 use borrow.Author.Tests.{eqb-true, eqb-false, ltb-true, ltb-false}
-use Rattle.protocol.specs.Boards.{has, with-board, meets, unlink, commit-group}
-use Rattle.protocol.specs.Image.{Area, Decision, Tags, Current, Recovery, Tentative, Checkpoint, Memory, Put, rank, change, after, cells}
-use Rattle.protocol.specs.Volatile.{closed, depends, clear, opened, acknowledge}
-use Rattle.protocol.specs.Calls.{tagged-in, stored-group, placing, completing}
-use Rattle.protocol.specs.Ledger.{kept, Commit, Ledger, writer, cleared, started, acknowledged-by, with-context, decided}
+use Rattle.boards.specs.Boards.{has, with-board, meets, tagged-in, unlink, commit-group}
+use Rattle.protocol.specs.Image.{Area, Decision, Tags, Current, Recovery, Tentative, Checkpoint, Memory, Put}
+use Rattle.protocol.specs.Image.{rank, change, after, cells}
+use Rattle.protocol.specs.Volatile.{closed, depends, left-open, clear, opened, acknowledge}
+use Rattle.protocol.specs.Calls.{stored-group, placing, completing}
+use Rattle.protocol.specs.Ledger.{kept, Open-commit, Ledger, writer, cleared, started, acknowledged-by}
+use Rattle.protocol.specs.Ledger.{with-context, decided}
 use Rattle.protocol.specs.declared.Shape.{Shape}
 use Rattle.protocol.specs.declared.Record.{Record}
-use Rattle.protocol.specs.declared.Open.{Open}
-use Rattle.protocol.proofs.Basics.{decide, clash, or-true, All, also}
-use Rattle.protocol.proofs.Groups.{Forward, Bounded, links-ext, depends-clear, has-zero, has-with, no-beyond, set-split, commit-group-self, commit-group-small, commit-group-below}
-use Rattle.protocol.proofs.Marks.{marks, live, saved, settle, tag-in, marks-settled, writer-settled, keeps, commit-saved, commit-reads}
+use Rattle.protocol.specs.declared.Commit.{Commit}
+use Rattle.boards.proofs.Basics.{decide, clash, or-true, All, also}
+use Rattle.boards.proofs.Groups.{Forward, Bounded, has-zero, has-with, no-beyond, set-split, commit-group-self}
+use Rattle.boards.proofs.Groups.{commit-group-small, commit-group-below}
+use Rattle.protocol.proofs.Records.{depends-clear}
+use Rattle.protocol.proofs.Marks.{marks, live, saved, settle, tag-in, marks-settled, writer-settled, keeps}
+use Rattle.protocol.proofs.Marks.{commit-saved, commit-reads}
 use Rattle.protocol.proofs.Consistent.{started-ok, handed-ok, decided-ok}
 use Rattle.protocol.proofs.Copies.{placing-other, placing-outside, placing-whole, flat-split}
 use Rattle.protocol.proofs.Safety.{Deciding, completed, decision, block-below}
-use Rattle.protocol.proofs.Agreement.{On, Agrees, nobody, somebody, Some-boards, kept-cell, on-idle, meets-all, agrees-clear, tag-in-same, untag-in, untag-out, commit-in}
+use Rattle.protocol.proofs.Agreement.{On, Agrees, nobody, somebody, Some-boards, kept-cell, on-idle, meets-all}
+use Rattle.protocol.proofs.Agreement.{agrees-clear, tag-in-same, untag-in, untag-out, commit-in}
 use Rattle.protocol.proofs.Steps.{depends-bounded}
 
 -- ---- the commit that has a board as member
 
-pub open-commit : {p : ℕ} {c : Open} {cs : List Commit} (i : ℕ) → Agrees p c cs → has (c .members) i ≡ true
+pub open-commit : {p : ℕ} {c : Commit} {cs : List Open-commit} (i : ℕ) → Agrees p c cs → has (c .members) i ≡ true
     → (cs ≡ record { members = c .members; acknowledged = c .acknowledged } ∷ []) × Some-boards p (c .members)
 open-commit i (nobody e f) h = clash h (ap (λ g. has g i) e ∙ has-zero i)
 open-commit i (somebody b) h = (refl, b)
 
-none-open : {p : ℕ} {c : Open} {cs : List Commit} → Agrees p c cs → c .members ≡ 0 → cs ≡ []
+none-open : {p : ℕ} {c : Commit} {cs : List Open-commit} → Agrees p c cs → c .members ≡ 0 → cs ≡ []
 none-open (nobody e f) z = refl
 none-open (somebody b) z = absurd (b .some z)
 
@@ -44,7 +50,7 @@ pub opened-on : {s : Shape} {m : Memory} {r : Record} {l : Ledger} → s .boards
 unfolding opened started depends
 opened-on {s} {m} {r} {l} most h e i k =
     let self = commit-group-self (depends r) i (omega arith) in
-    let begun : Open = record { starter = i; members = commit-group (depends r) i; acknowledged = 0 } in
+    let begun : Commit = record { starter = i; members = commit-group (depends r) i; acknowledged = 0 } in
     let bounded = subst (λ d. Bounded (s .boards) d) (sym (h .links)) (h .consistent .bounded) in
     record {
       consistent = started-ok most (h .consistent) i;
@@ -181,7 +187,7 @@ module _ {s : Shape} {m : Memory} {r : Record} {l : Ledger} (h : On s m r l) (mo
       closed-group = head (subst (λ cs. All (λ c. Forward (has (c .members)) (l .links)) cs) (the-commit .0)
           (h .consistent .closed))
         where
-          head : {c : Commit} {cs : List Commit} → All (λ c. Forward (has (c .members)) (l .links)) (c ∷ cs)
+          head : {c : Open-commit} {cs : List Open-commit} → All (λ c. Forward (has (c .members)) (l .links)) (c ∷ cs)
               → Forward (has (c .members)) (l .links)
           head (also f fs) = f
 
@@ -238,7 +244,7 @@ module _ {s : Shape} {m : Memory} {r : Record} {l : Ledger} (h : On s m r l) (mo
       meets-itself = meets-all (the-commit .1) (has g) (λ j e. e)
 
       nobody-left : clear (acknowledge r i) g .commit .acknowledged ≡ 0
-      unfolding clear acknowledge closed
+      unfolding clear left-open acknowledge closed
       nobody-left = rw meets-itself
 
       pub decided-on : On s completed-memory (clear (acknowledge r i) g) settled-ledger
@@ -248,8 +254,7 @@ module _ {s : Shape} {m : Memory} {r : Record} {l : Ledger} (h : On s m r l) (mo
           let c = completed s positive (decision s m i g context) g in
           record {
             consistent = decided-ok (on .consistent) g closed-group;
-            links = links-ext (depends-clear (acknowledge r i) (depends-bounded on most) g) ∙ ap (unlink (has g))
-                (on .links);
+            links = depends-clear (acknowledge r i) (depends-bounded on most) g ∙ ap (unlink (has g)) (on .links);
             undecided = c .undecided;
             tags =
                 λ b k.

@@ -9,16 +9,25 @@ use lib.Dec.{eqb, ltb, leb}
 use lib.ListN.{length}
 use native.Mathlib.Omega.{arith}
 use borrow.Author.Tests.{leb-true, ltb-true, lt-ltb}
-use Rattle.protocol.specs.Lists.{span, anyOf, select}
-use Rattle.protocol.specs.Boards.{has, meets, Links, link, unlink, Binding, one-way, two-way, bind-tags, Chain, here}
-use Rattle.protocol.specs.Calls.{touched}
-use Rattle.protocol.specs.Ledger.{Fate, pending, kept, undone, Wrote, Read-from, Note, Commit, Ledger, blank, is-pending, covers, written, sources-of, wrote-in, writer, source, settled, cleared, all-undone, noted, started, acknowledged-by, with-context, decided, reads-undone}
+use Rattle.boards.specs.Lists.{span, anyOf, select}
+use Rattle.boards.specs.Boards.{has, meets, Links, link, unlink, Chain, here}
+use Rattle.protocol.specs.Accesses.{touched, Binding, two-way, read-binding, write-binding, bind-blocks}
+use Rattle.protocol.specs.Ledger.{Fate, pending, kept, undone, Wrote, Read-from, Note, Open-commit, Ledger, blank}
+use Rattle.protocol.specs.Ledger.{is-pending, covers, written, sources-of, wrote-in, writer, source, settled}
+use Rattle.protocol.specs.Ledger.{cleared, all-undone, noted, started, acknowledged-by, with-context, decided}
+use Rattle.protocol.specs.Ledger.{reads-undone}
 use Rattle.protocol.specs.declared.Shape.{Shape}
-use Rattle.protocol.proofs.Basics.{decide, clash, refute, and-true, true-and, and-false, All, none, also, all-map, anyOf-false}
-use Rattle.protocol.proofs.Groups.{Forward, Backward, Bounded, bounded-more, unlink-true, unlink-bounded, unlinked-bounded, commit-group-forward}
-use Rattle.protocol.proofs.Marks.{settle, untag, Ends, mark, marks, To, to, From, from, Above, Top, Kept-order, above-map, top-map, commit-order, rollback-order, marks-settled, writer-settled, keeps, undoes, At, Sourced, on-kept, on-pending, sourced}
-use Rattle.protocol.proofs.Soundness.{Good, Backed, by-none, by-kept, by-pending, backed, good-more, good-commit, good-rollback, untainted}
-use Rattle.protocol.proofs.Accesses.{cell-touched, all-found, binds-wider, binds-from, binds-to, binds-bounded, binds-forward, Outside, from-more, to-more}
+use Rattle.boards.proofs.Basics.{decide, clash, refute, and-true, true-and, and-false, All, none, also, all-map}
+use Rattle.boards.proofs.Basics.{anyOf-false}
+use Rattle.boards.proofs.Groups.{Forward, Backward, Bounded, bounded-more, unlink-true, unlink-bounded}
+use Rattle.boards.proofs.Groups.{unlinked-bounded, commit-group-forward}
+use Rattle.protocol.proofs.Marks.{settle, untag, Ends, mark, marks, To, to, From, from, Above, Top, Kept-order}
+use Rattle.protocol.proofs.Marks.{above-map, top-map, commit-order, rollback-order, marks-settled}
+use Rattle.protocol.proofs.Marks.{writer-settled, keeps, undoes, At, Sourced, on-kept, on-pending, sourced}
+use Rattle.protocol.proofs.Soundness.{Good, Backed, by-none, by-kept, by-pending, backed, good-more, good-commit}
+use Rattle.protocol.proofs.Soundness.{good-rollback, untainted}
+use Rattle.protocol.proofs.Accesses.{cell-touched, all-found, binds-wider, binds-from, binds-to, binds-bounded}
+use Rattle.protocol.proofs.Accesses.{binds-forward, Outside, from-more, to-more}
 
 pub record Consistent (s : Shape) (l : Ledger) : Type 0 where
   pub bounded : Bounded (s .boards) (l .links)
@@ -34,7 +43,7 @@ all-mapped : {P Q : Note → Type 0} (f : Note → Note) {ns : List Note} → ((
 all-mapped f g none = none
 all-mapped f g (also h hs) = also (g _ h) (all-mapped f g hs)
 
-all-kept : {P : Commit → Type 0} (t : Commit → Bool) (cs : List Commit) → All P cs → All P (select t cs)
+all-kept : {P : Open-commit → Type 0} (t : Open-commit → Bool) (cs : List Open-commit) → All P cs → All P (select t cs)
 unfolding select
 all-kept t [] none = none
 all-kept t (c ∷ cs) (also h hs) =
@@ -100,19 +109,15 @@ writer-below s (n ∷ ns) (also h hs) b =
     (λ (e : wrote-in s b n ≡ false). rw e rest)
     (decide (wrote-in s b n))
 
-pub all-tags : {P : ℕ → Type 0} (f : ℕ → ℕ) → ((b : ℕ) → P (f b)) → (bs : List ℕ) → All P (map f bs)
-all-tags f h [] = none
-all-tags f h (b ∷ bs) = also (h b) (all-tags f h bs)
-
 -- what is known of an access of board i to n cells from a on that is not refused
-pub record Access-ok (s : Shape) (how : Binding) (i a n : ℕ) (l : Ledger) : Type 0 where
+pub record Access-ok (s : Shape) (how : ℕ → Binding) (i a n : ℕ) (l : Ledger) : Type 0 where
   pub positive : 0 < s .size
   pub board : i < s .boards
   pub some : 0 < n
   pub few : n ≤ s .size
   -- the board is in no open commit, nor is the writer of a block that it writes to
-  pub outside : All (λ c. (has (c .members) i ≡ false) × All (Outside (has (c .members)) how)
-      (map (writer s (l .notes)) (touched s a n))) (l .commits)
+  pub outside : All (λ c. (has (c .members) i ≡ false)
+      × All (λ b. Outside (has (c .members)) (how b) (writer s (l .notes) b)) (touched s a n)) (l .commits)
 
 all-zip : {X : Type 0} {P Q R : X → Type 0} {xs : List X} → ((x : X) → P x → Q x → R x) → All P xs → All Q xs
     → All R xs
@@ -130,62 +135,62 @@ read-covers i a x f os =
     let hi = ltb-true x (a + 0) (both .1) in
     omega arith)
 
-module _ {s : Shape} {l : Ledger} (c : Consistent s l) {how : Binding} {i a n : ℕ} (ok : Access-ok s how i a n l) where
-  tags : List ℕ
-  tags = map (writer s (l .notes)) (touched s a n)
+module _ {s : Shape} {l : Ledger} (c : Consistent s l) {how : ℕ → Binding} {i a n : ℕ} (ok : Access-ok s how i a n l)
+  where
+    linked : Links
+    linked = bind-blocks link how (writer s (l .notes)) (l .links) i (touched s a n)
 
-  linked : Links
-  linked = bind-tags link how (l .links) i tags
+    wider : (x y : ℕ) → l .links x y ≡ true → linked x y ≡ true
+    unfolding linked
+    wider = binds-wider how (writer s (l .notes)) (l .links) i (touched s a n)
 
-  wider : (x y : ℕ) → l .links x y ≡ true → linked x y ≡ true
-  unfolding linked
-  wider = binds-wider how (l .links) i tags
+    linked-bounded : Bounded (s .boards) linked
+    unfolding linked
+    linked-bounded =
+        binds-bounded (ok .board) how (writer s (l .notes)) (l .links) (touched s a n)
+        (writer-below s (l .notes) (c .boards)) (c .bounded)
 
-  linked-bounded : Bounded (s .boards) linked
-  unfolding linked tags
-  linked-bounded =
-      binds-bounded (ok .board) how (l .links) tags
-      (all-tags (writer s (l .notes)) (writer-below s (l .notes) (c .boards)) (touched s a n))
-      (c .bounded)
+    linked-closed : All (λ k. Forward (has (k .members)) linked) (l .commits)
+    unfolding linked
+    linked-closed =
+        all-zip (λ k out f. binds-forward i (touched s a n) (out .0) (out .1) f) (ok .outside) (c .closed)
 
-  linked-closed : All (λ k. Forward (has (k .members)) linked) (l .commits)
-  unfolding linked tags
-  linked-closed =
-      all-zip (λ k out f. binds-forward i tags (out .0) (out .1) f) (ok .outside) (c .closed)
+    older-reads : (x : Note) → All (Good linked (x ∷ l .notes)) (l .notes)
+    older-reads x = all-map (λ n h. good-more wider h) (c .reads)
 
-  older-reads : (x : Note) → All (Good linked (x ∷ l .notes)) (l .notes)
-  older-reads x = all-map (λ n h. good-more wider h) (c .reads)
+    order-wider : (x : ℕ) → Kept-order linked (writer s (l .notes) (x / s .size)) (marks (l .notes) x)
+    order-wider x =
+        let o = c .order x in
+        record {
+          above = above-map (λ m h. to-more wider h) (o .above);
+          top = top-map (λ m h. from-more wider h) (o .top);
+        }
 
-  order-wider : (x : ℕ) → Kept-order linked (writer s (l .notes) (x / s .size)) (marks (l .notes) x)
-  order-wider x =
-      let o = c .order x in
-      record { above = above-map (λ m h. to-more wider h) (o .above); top = top-map (λ m h. from-more wider h) (o .top) }
+    -- a cell of a touched block: what is known of its tag
+    tag-from : (x : ℕ) → anyOf (eqb (x / s .size)) (touched s a n) ≡ true → (m : ℕ)
+        → From (l .links) m (writer s (l .notes) (x / s .size)) → Chain linked i m
+    unfolding linked
+    tag-from x h =
+        all-found (x / s .size) (touched s a n)
+        (binds-from how (writer s (l .notes)) (l .links) i (touched s a n)) h
 
-  -- a cell of a touched block: what is known of its tag
-  tag-from : (x : ℕ) → anyOf (eqb (x / s .size)) (touched s a n) ≡ true → (m : ℕ)
-      → From (l .links) m (writer s (l .notes) (x / s .size)) → Chain linked i m
-  unfolding linked tags
-  tag-from x h =
-      all-found {P = λ t. (m : ℕ) → From (l .links) m t → Chain (bind-tags link how (l .links) i tags) i m}
-      (writer s (l .notes)) (x / s .size) (touched s a n) (binds-from how (l .links) i tags) h
+    -- a read's note
+    source-backed : (os : List (Option ℕ)) (x : ℕ) → anyOf (eqb (x / s .size)) (touched s a n) ≡ true
+        → Backed linked (record { board = i; cell = a; access = Read-from os; fate = pending } ∷ l .notes)
+        (record { board = i; cell = a; access = Read-from os; fate = pending }) (source (l .notes) x)
+    source-backed os x h = go (source (l .notes) x) refl
+      where
+        new : Note
+        new = record { board = i; cell = a; access = Read-from os; fate = pending }
 
-  -- a read's note
-  source-backed : (os : List (Option ℕ)) (x : ℕ) → anyOf (eqb (x / s .size)) (touched s a n) ≡ true
-      → Backed linked (record { board = i; cell = a; access = Read-from os; fate = pending } ∷ l .notes)
-      (record { board = i; cell = a; access = Read-from os; fate = pending }) (source (l .notes) x)
-  source-backed os x h = go (source (l .notes) x) refl
-    where
-      new : Note
-      new = record { board = i; cell = a; access = Read-from os; fate = pending }
+        by : {k : ℕ} → Sourced (l .links) (writer s (l .notes) (x / s .size)) (l .notes) k
+            → Backed linked (new ∷ l .notes) new (some k)
+        by (on-kept w e) = by-kept (At.older w) e
+        by (on-pending w e f) = by-pending (At.older w) e refl (tag-from x h _ f)
 
-      by : {k : ℕ} → Sourced (l .links) (writer s (l .notes) (x / s .size)) (l .notes) k
-          → Backed linked (new ∷ l .notes) new (some k)
-      by (on-kept w e) = by-kept (At.older w) e
-      by (on-pending w e f) = by-pending (At.older w) e refl (tag-from x h _ f)
-
-      go : (o : Option ℕ) → source (l .notes) x ≡ o → Backed linked (new ∷ l .notes) new o
-      go none e = by-none
-      go (some k) e = by (sourced (l .links) (writer s (l .notes) (x / s .size)) (l .notes) x k (c .order x .top) e)
+        go : (o : Option ℕ) → source (l .notes) x ≡ o → Backed linked (new ∷ l .notes) new o
+        go none e = by-none
+        go (some k) e = by (sourced (l .links) (writer s (l .notes) (x / s .size)) (l .notes) x k (c .order x .top) e)
 
 -- what holds at each of n numbers from a on
 all-span : {X : Type 0} {P : X → Type 0} (f : ℕ → X) (a n : ℕ) → ((x : ℕ) → a ≤ x → x < a + n → P (f x))
@@ -195,9 +200,9 @@ all-span f a zero h = none
 all-span f a (suc n) h = also (h a (omega arith) (omega arith))
     (all-span f (suc a) n (λ x lo hi. h x (omega arith) (omega arith)))
 
-module _ {s : Shape} {l : Ledger} (c : Consistent s l) {i a n : ℕ} (ok : Access-ok s one-way i a n l) where
-  pub noted-read : Consistent s (noted s one-way i a n (Read-from (span (source (l .notes)) a n)) l)
-  unfolding noted linked tags writer wrote-in written marks sources-of
+module _ {s : Shape} {l : Ledger} (c : Consistent s l) {i a n : ℕ} (ok : Access-ok s read-binding i a n l) where
+  pub noted-read : Consistent s (noted s read-binding i a n (Read-from (span (source (l .notes)) a n)) l)
+  unfolding noted linked writer wrote-in written marks sources-of
   noted-read =
       let os = span (source (l .notes)) a n in
       let new : Note = record { board = i; cell = a; access = Read-from os; fate = pending } in
@@ -214,7 +219,7 @@ module _ {s : Shape} {l : Ledger} (c : Consistent s l) {i a n : ℕ} (ok : Acces
       }
 
 module _ {s : Shape} {l : Ledger} (c : Consistent s l) {i a : ℕ} (bytes : List ℕ)
-    (ok : Access-ok s two-way i a (length bytes) l) where
+    (ok : Access-ok s (write-binding s a (length bytes)) i a (length bytes) l) where
   new-write : Note
   new-write = record { board = i; cell = a; access = Wrote bytes; fate = pending }
 
@@ -238,10 +243,11 @@ module _ {s : Shape} {l : Ledger} (c : Consistent s l) {i a : ℕ} (bytes : List
 
   tag-to : (x : ℕ) → anyOf (eqb (x / s .size)) (touched s a (length bytes)) ≡ true → (m : ℕ)
       → To (l .links) m (writer s (l .notes) (x / s .size)) → Chain (linked c ok) m i
-  unfolding linked tags
+  unfolding linked write-binding
   tag-to x h =
-      all-found {P = λ t. (m : ℕ) → To (l .links) m t → Chain (linked c ok) m i}
-      (writer s (l .notes)) (x / s .size) (touched s a (length bytes)) (binds-to (l .links) i (tags c ok)) h
+      all-found (x / s .size) (touched s a (length bytes))
+      (binds-to (write-binding s a (length bytes)) (writer s (l .notes)) (l .links) i
+      (touched s a (length bytes))) h refl
 
   -- a cell of a touched block, covered or not
   covered : (x : ℕ) → anyOf (eqb (x / s .size)) (touched s a (length bytes)) ≡ true → covers new-write x ≡ true
@@ -278,8 +284,8 @@ module _ {s : Shape} {l : Ledger} (c : Consistent s l) {i a : ℕ} (bytes : List
       (elsewhere x)
       (decide (anyOf (eqb (x / s .size)) (touched s a (length bytes))))
 
-  pub noted-write : Consistent s (noted s two-way i a (length bytes) (Wrote bytes) l)
-  unfolding noted new-write linked tags sources-of
+  pub noted-write : Consistent s (noted s (write-binding s a (length bytes)) i a (length bytes) (Wrote bytes) l)
+  unfolding noted new-write linked sources-of
   noted-write =
       record {
         bounded = linked-bounded c ok;
@@ -302,7 +308,7 @@ started-ok h c i =
       closed = also (commit-group-forward (bounded-more (c .bounded) h) i) (c .closed);
     }
 
-joined-closed : {d : Links} (i : ℕ) (cs : List Commit) → All (λ c. Forward (has (c .members)) d) cs
+joined-closed : {d : Links} (i : ℕ) (cs : List Open-commit) → All (λ c. Forward (has (c .members)) d) cs
     → All (λ c. Forward (has (c .members)) d) (map (acknowledged-by i) cs)
 unfolding acknowledged-by
 joined-closed i [] none = none

@@ -8,15 +8,20 @@ use lib.Dec.{eqb, ltb, leb}
 use lib.ListN.{length, getD, take, length-append, length-take}
 use lib.Seq.{take-all, take-length, take-nil, take-append-le, getD-take}
 use native.Mathlib.Omega.{arith}
-use native.Mathlib.Nat.{not-suc-le-zero, mul-add-div-right, div-eq-of-lt, div-add-mod', mod-lt, suc-mul, mul-le-mul-right, sub-zero, zero-sub, suc-sub-suc, add-zero, le-refl}
+use native.Mathlib.Nat.{not-suc-le-zero, mul-add-div-right, div-eq-of-lt, div-add-mod', mod-lt, suc-mul}
+use native.Mathlib.Nat.{mul-le-mul-right, sub-zero, zero-sub, suc-sub-suc, add-zero, le-refl}
 use borrow.Author.Tests.{eqb-true, leb-true, leb-false, ltb-true, ltb-false}
-use Rattle.protocol.specs.Lists.{for, span}
-use Rattle.protocol.specs.Boards.{has}
-use Rattle.protocol.specs.Image.{Area, Tags, Current, Recovery, Tentative, Checkpoint, Memory, Put, put, rank, size, cells, change, after}
+use Rattle.boards.specs.Lists.{for, span}
+use Rattle.boards.specs.Boards.{has}
+use Rattle.protocol.specs.Image.{Area, Tags, Current, Recovery, Tentative, Checkpoint, Memory, Put, put, rank}
+use Rattle.protocol.specs.Image.{size, cells, change, after}
 use Rattle.protocol.specs.Calls.{placing, copying, block-copied, blocks-copied, context-saved}
 use Rattle.protocol.specs.declared.Shape.{Shape}
-use Rattle.protocol.proofs.Basics.{decide, clash, and-true, refute, true-and, if-true, if-false, eqb-same, below-suc, All, none, also, all-append, all-cond, all-for, all-map, length-span, getD-span, all-take, take-append, take-map}
-use Rattle.protocol.proofs.Memory.{Away, after-append, after-local, change-area, change-away, change-index, change-same, else-area, else-index, untouched}
+use Rattle.boards.proofs.Basics.{decide, clash, and-true, refute, true-and, if-true, if-false, eqb-same, below-suc, All}
+use Rattle.boards.proofs.Basics.{none, also, all-append, all-cond, all-for, all-map, length-span, getD-span, all-take}
+use Rattle.boards.proofs.Basics.{take-append, take-map}
+use Rattle.protocol.proofs.Memory.{Away, after-append, after-local, change-area, change-away, change-index}
+use Rattle.protocol.proofs.Memory.{change-same, else-area, else-index, untouched}
 
 -- k puts of a loop are `part` puts of round b, all of them if all of the loop's are made, at each place that no other
 -- round touches

@@ -6,12 +6,12 @@ use mathlib.Core.List.{List, [], _∷_, _++_}
 use mathlib.Core.Logic.{⊎-elim}
 use lib.ListN.{length, length-append}
 use native.Mathlib.Omega.{arith}
-use Rattle.protocol.specs.Lists.{for}
-use Rattle.protocol.specs.Boards.{has}
+use Rattle.boards.specs.Lists.{for}
+use Rattle.boards.specs.Boards.{has, tagged-in}
 use Rattle.protocol.specs.Image.{Area, Decision, Tags, Current, Recovery, Memory, put}
-use Rattle.protocol.specs.Calls.{tagged-in, copying, block-copied, blocks-copied, context-saved, completing, deciding}
+use Rattle.protocol.specs.Calls.{copying, block-copied, blocks-copied, context-saved, completing, deciding}
 use Rattle.protocol.specs.declared.Shape.{Shape}
-use Rattle.protocol.proofs.Basics.{decide}
+use Rattle.boards.proofs.Basics.{decide}
 use Rattle.protocol.proofs.Copies.{length-copying}
 
 -- how many numbers below n pass a test

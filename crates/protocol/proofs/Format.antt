@@ -10,14 +10,16 @@ use lib.Seq.{getD-set-same, getD-set-other, take-all}
 use native.Mathlib.Omega.{arith}
 use native.Mathlib.Nat.{mod-add-div}
 use borrow.Author.Tests.{eq-eqb, eqb-true, eqb-false, le-ltb, ltb-false, ltb-true}
-use Rattle.protocol.specs.Lists.{span, every}
-use Rattle.protocol.specs.Image.{Area, allowed, total, base, size, rank, exponent, exponent-from, mark, header, byte, shape-of, view, Store, made}
+use Rattle.boards.specs.Lists.{span, every}
+use Rattle.protocol.specs.Image.{Area, allowed, total, base, size, rank, exponent, exponent-from, mark, header}
+use Rattle.protocol.specs.Image.{byte, shape-of, view, Store, made}
 use Rattle.protocol.specs.Volatile.{fresh}
-use Rattle.protocol.specs.Calls.{first, refused, executed, format-refusals, formatting, format}
+use Rattle.protocol.specs.Calls.{first, refused, executed, format-tests, formatting, format}
 use Rattle.protocol.specs.declared.Shape.{Shape}
 use Rattle.protocol.specs.declared.Record.{Record}
-use Rattle.protocol.proofs.Basics.{decide, refute, below-suc, length-span}
-use Rattle.protocol.proofs.Bridge.{Sound, sound-bytes, limits, view-at, view-past, fits, past-header, length-made}
+use Rattle.boards.proofs.Basics.{decide, refute, below-suc, length-span}
+use Rattle.protocol.proofs.Bridge.{Sound, sound-bytes, limits, view-at, view-past, fits, past-header}
+use Rattle.protocol.proofs.Bridge.{length-made}
 
 -- ---- the header
 
@@ -108,7 +110,7 @@ module _ (s : Shape) (image : List ℕ) (r : Record) (k : ℕ) where
   -- a format is done only if it is not refused and not cut
   format-passed : format s image r k .reply .answer .status ≡ 0 →
       (allowed s ≡ true) × (length image ≡ total s) × (total s + 1 ≤ k)
-  unfolding format format-refusals first refused executed
+  unfolding format format-tests first refused executed
   format-passed h =
       (fine, eqb-true _ _ long, omega (arith, format-stores s, ltb-false k (length (formatting s)) whole))
     where
@@ -126,7 +128,7 @@ module _ (s : Shape) (image : List ℕ) (r : Record) (k : ℕ) where
       (format s image r k .reply .answer .status ≡ 0)
       × (format s image r k .reply .next ≡ fresh)
       × (format s image r k .image ≡ made (formatting s) image)
-  unfolding format format-refusals first executed
+  unfolding format format-tests first executed
   format-whole fine long enough =
       let room : length (formatting s) ≤ k = omega (arith, format-stores s) in
       rw (fine, eq-eqb _ _ long, le-ltb k _ room, take-all k _ room) (refl, refl, refl)

@@ -1,5 +1,5 @@
-pub mod Basics
-pub mod Groups
+pub mod Records
+pub mod Refusals
 pub mod Marks
 pub mod Soundness
 pub mod Accesses
@@ -17,4 +17,3 @@ pub mod Steps
 pub mod Commits
 pub mod Acknowledging
 pub mod Demand3
-pub mod Masks

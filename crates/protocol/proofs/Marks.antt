@@ -9,11 +9,13 @@ use mathlib.Core.Logic.{_⊎_, inl, inr, ⊎-elim}
 use lib.ListN.{length, length-map}
 use native.Mathlib.Omega.{arith}
 use borrow.Author.Tests.{eq-eqb, ne-eqb}
-use Rattle.protocol.specs.Boards.{Links, Chain, unlink}
-use Rattle.protocol.specs.Ledger.{Fate, pending, kept, undone, Note, is-pending, not-undone, covers, byte-in, wrote-in, writer, source, byte-from, fate-of, settled}
+use Rattle.boards.specs.Boards.{Links, Chain, unlink}
+use Rattle.protocol.specs.Ledger.{Fate, pending, kept, undone, Note, is-pending, not-undone, covers, byte-in}
+use Rattle.protocol.specs.Ledger.{wrote-in, writer, source, byte-from, fate-of, settled}
 use Rattle.protocol.specs.declared.Shape.{Shape}
-use Rattle.protocol.proofs.Basics.{decide, clash, refute}
-use Rattle.protocol.proofs.Groups.{Forward, Backward, forward-chain, backward-chain, chain-outside-forward, chain-outside-backward}
+use Rattle.boards.proofs.Basics.{decide, clash, refute}
+use Rattle.boards.proofs.Groups.{Forward, Backward, forward-chain, backward-chain, chain-outside-forward}
+use Rattle.boards.proofs.Groups.{chain-outside-backward}
 
 -- ---- the writes of one cell
 

@@ -7,7 +7,7 @@ use mathlib.Core.Logic.{_≢_}
 use lib.Dec.{eqb}
 use borrow.Author.Tests.{eqb-true}
 use Rattle.protocol.specs.Image.{Area, Memory, Put, put, rank, change, after}
-use Rattle.protocol.proofs.Basics.{and-true, refute, true-and, if-true, if-false, eqb-same, All, none, also}
+use Rattle.boards.proofs.Basics.{and-true, refute, true-and, if-true, if-false, eqb-same, All, none, also}
 
 -- ---- one put
 

@@ -9,45 +9,19 @@ use lib.ListN.{length, take, length-map}
 use lib.Seq.{take-all}
 use native.Mathlib.Omega.{arith}
 use borrow.Author.Tests.{eqb-true, eqb-false, ne-eqb, ltb-true, ltb-false, lt-ltb, le-ltb}
-use Rattle.protocol.specs.Lists.{anyOf}
+use Rattle.boards.specs.Lists.{anyOf}
 use Rattle.protocol.specs.Image.{Memory, Put, rank, raw, after, view}
 use Rattle.protocol.specs.Volatile.{off}
-use Rattle.protocol.specs.Calls.{Call, Read, Write, Start, Acknowledge, Fault, Power-up, Test, test, first, common, refusals, Plan, plan, budget, Outcome, refused as refuse, decides, executed, record-refused, perform}
+use Rattle.protocol.specs.Calls.{Request, first, refusals}
+use Rattle.protocol.specs.Calls.{Plan, plan, Outcome, refused as refuse, decides, executed, record-refused}
+use Rattle.protocol.specs.Calls.{perform}
 use Rattle.protocol.specs.Ledger.{Verdict, refused, done, cut}
 use Rattle.protocol.specs.Claim.{verdict}
 use Rattle.protocol.specs.declared.Shape.{Shape}
 use Rattle.protocol.specs.declared.Record.{Record}
-use Rattle.protocol.proofs.Basics.{decide, or-false, All, none, also, all-take, take-map}
+use Rattle.boards.proofs.Basics.{decide, All, none, also, all-take, take-map}
+use Rattle.protocol.proofs.Refusals.{uncut, refusals-uncut}
 use Rattle.protocol.proofs.Bridge.{Sound, Valid, view-made-fun, made-sound, decides-raw}
-
--- ---- refusals
-
--- a test that does not stand in the way
-pub passed : (b : Bool) (n : ℕ) (ts : List Test) → n ≢ 0 → first (test b n ∷ ts) ≡ 0 → (b ≡ false) × (first ts ≡ 0)
-unfolding first
-passed true n ts h e = absurd (h e)
-passed false n ts h e = (refl, e)
-
--- no refusal has the number that says "cut"
-pub uncut : (ts : List Test) → anyOf (λ t. eqb (t .number) 9) ts ≡ false → first ts ≢ 9
-unfolding first anyOf
-uncut [] h e = omega arith
-uncut (t ∷ ts) h e =
-    let both = or-false (eqb (t .number) 9) (anyOf (λ t. eqb (t .number) 9) ts) h in
-    ⊎-elim
-    (λ (b : t .holds ≡ true). eqb-false (t .number) 9 (both .0) (sym (ap (λ c. cond c (t .number) (first ts)) b) ∙ e))
-    (λ (b : t .holds ≡ false). uncut ts (both .1) (sym (ap (λ c. cond c (t .number) (first ts)) b) ∙ e))
-    (decide (t .holds))
-
-pub refusals-uncut : (image : List ℕ) (s : Shape) (m : Memory) (r : Record) (call : Call)
-    → anyOf (λ t. eqb (t .number) 9) (refusals image s m r call) ≡ false
-unfolding refusals common anyOf
-refusals-uncut image s m r (Read i a n room) = refl
-refusals-uncut image s m r (Write i a bytes k) = refl
-refusals-uncut image s m r (Start i context k) = refl
-refusals-uncut image s m r (Acknowledge i context k) = refl
-refusals-uncut image s m r (Fault i k) = refl
-refusals-uncut image s m r (Power-up k) = refl
 
 -- ---- stores made
 
@@ -79,36 +53,38 @@ pub record Stopped (s : Shape) (m : Memory) (p : Plan) (k : ℕ) (o : Outcome) :
   pub next : o .reply .next ≡ off
   pub decided : o .reply .answer .decided ≡ anyOf decisive (take k (p .stores))
 
-pub data Result (s : Shape) (image : List ℕ) (r : Record) (call : Call) : Type 0 where
-  turned-away : verdict (perform image r call) ≡ refused → perform image r call .image ≡ image
-      → perform image r call .reply .next ≡ record-refused r call
-      → perform image r call .reply .answer .decided ≡ false → first (refusals image s (view s image) r call) ≢ 0
-      → Result s image r call
-  stopped : first (refusals image s (view s image) r call) ≡ 0
-      → Stopped s (view s image) (plan s (view s image) r call) (budget call) (perform image r call)
-      → Result s image r call
-  finished : first (refusals image s (view s image) r call) ≡ 0
-      → length (plan s (view s image) r call .stores) ≤ budget call
-      → Finished s (view s image) (plan s (view s image) r call) (perform image r call) → Result s image r call
+pub data Result (s : Shape) (image : List ℕ) (r : Record) (request : Request) (k : ℕ) : Type 0 where
+  turned-away : verdict (perform image r request k) ≡ refused → perform image r request k .image ≡ image
+      → perform image r request k .reply .next ≡ record-refused r request
+      → perform image r request k .reply .answer .decided ≡ false
+      → first (refusals image s (view s image) r request) ≢ 0
+      → Result s image r request k
+  stopped : first (refusals image s (view s image) r request) ≡ 0
+      → Stopped s (view s image) (plan s (view s image) r request) k (perform image r request k)
+      → Result s image r request k
+  finished : first (refusals image s (view s image) r request) ≡ 0
+      → length (plan s (view s image) r request .stores) ≤ k
+      → Finished s (view s image) (plan s (view s image) r request) (perform image r request k)
+      → Result s image r request k
 
-module _ {s : Shape} {image : List ℕ} (h : Sound s image) (r : Record) (call : Call) where
+module _ {s : Shape} {image : List ℕ} (h : Sound s image) (r : Record) (request : Request) (k : ℕ) where
   abbrev the-plan : Plan
-  the-plan = plan s (view s image) r call
+  the-plan = plan s (view s image) r request
 
   abbrev number : ℕ
-  number = first (refusals image s (view s image) r call)
+  number = first (refusals image s (view s image) r request)
 
   accepted : number ≡ 0
-      → perform image r call
-      ≡ executed (budget call) (map (raw s) (the-plan .stores)) image (the-plan .group) (the-plan .next) (the-plan .bytes)
+      → perform image r request k
+      ≡ executed k (map (raw s) (the-plan .stores)) image (the-plan .group) (the-plan .next) (the-plan .bytes)
   unfolding perform
   accepted e = rw (h .shape, e)
 
-  rejected : number ≢ 0 → perform image r call ≡ refuse number image (record-refused r call)
+  rejected : number ≢ 0 → perform image r request k ≡ refuse number image (record-refused r request)
   unfolding perform
   rejected e = rw (h .shape, ne-eqb number 0 e)
 
-  refused-result : number ≢ 0 → Result s image r call
+  refused-result : number ≢ 0 → Result s image r request k
   unfolding refuse verdict
   refused-result e =
       let o = rejected e in
@@ -116,19 +92,18 @@ module _ {s : Shape} {image : List ℕ} (h : Sound s image) (r : Record) (call :
       (ap verdict o ∙ rw (
         ne-eqb number 0 e,
         ne-eqb number 9
-            (uncut (refusals image s (view s image) r call) (refusals-uncut image s (view s image) r call)),
+            (uncut (refusals image s (view s image) r request) (refusals-uncut image s (view s image) r request)),
       ))
       (ap (λ x. x .image) o)
       (ap (λ x. x .reply .next) o)
       (ap (λ x. x .reply .answer .decided) o)
       e
 
-  cut-result : number ≡ 0 → All (Valid s) (the-plan .stores) → budget call < length (the-plan .stores)
-      → Result s image r call
+  cut-result : number ≡ 0 → All (Valid s) (the-plan .stores) → k < length (the-plan .stores)
+      → Result s image r request k
   unfolding executed verdict
   cut-result e v l =
       let o = accepted e in
-      let k = budget call in
       let ps = the-plan .stores in
       let some = take-map k (raw s) ps in
       let valid = all-take k v in
@@ -143,12 +118,11 @@ module _ {s : Shape} {image : List ℕ} (h : Sound s image) (r : Record) (call :
         decided = ap (λ x. x .reply .answer .decided) o ∙ rw some (decides-map s (take k ps) valid);
       })
 
-  done-result : number ≡ 0 → All (Valid s) (the-plan .stores) → length (the-plan .stores) ≤ budget call
-      → Result s image r call
+  done-result : number ≡ 0 → All (Valid s) (the-plan .stores) → length (the-plan .stores) ≤ k
+      → Result s image r request k
   unfolding executed verdict
   done-result e v l =
       let o = accepted e in
-      let k = budget call in
       let ps = the-plan .stores in
       let all = take-map k (raw s) ps ∙ ap (map (raw s)) (take-all k ps l) in
       let long : ltb k (length (map (raw s) ps)) ≡ false = rw (length-map ps (raw s)) (le-ltb k (length ps) l) in
@@ -163,15 +137,15 @@ module _ {s : Shape} {image : List ℕ} (h : Sound s image) (r : Record) (call :
         decided = ap (λ x. x .reply .answer .decided) o ∙ rw all (decides-map s ps v);
       })
 
-  pub result : (number ≡ 0 → All (Valid s) (the-plan .stores)) → Result s image r call
+  pub result : (number ≡ 0 → All (Valid s) (the-plan .stores)) → Result s image r request k
   result v =
       ⊎-elim
       (λ (e : eqb number 0 ≡ true).
       let z = eqb-true number 0 e in
       ⊎-elim
-      (λ (f : ltb (budget call) (length (the-plan .stores)) ≡ true). cut-result z (v z) (ltb-true _ _ f))
-      (λ (f : ltb (budget call) (length (the-plan .stores)) ≡ false). done-result z (v z) (ltb-false _ _ f))
-      (decide (ltb (budget call) (length (the-plan .stores)))))
+      (λ (f : ltb k (length (the-plan .stores)) ≡ true). cut-result z (v z) (ltb-true _ _ f))
+      (λ (f : ltb k (length (the-plan .stores)) ≡ false). done-result z (v z) (ltb-false _ _ f))
+      (decide (ltb k (length (the-plan .stores)))))
       (λ (e : eqb number 0 ≡ false). refused-result (eqb-false number 0 e))
       (decide (eqb number 0))
 

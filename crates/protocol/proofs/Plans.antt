@@ -9,38 +9,23 @@ use lib.Dec.{eqb, ltb, leb}
 use lib.ListN.{length, take}
 use native.Mathlib.Omega.{arith}
 use borrow.Author.Tests.{eqb-false, ne-eqb, ltb-false, leb-false}
-use Rattle.protocol.specs.Lists.{anyOf}
-use Rattle.protocol.specs.Image.{Decision, Group, Tags, Current, Recovery, Tentative, Memory, Put, put, rank, size, after, cells, in-order, shape-of}
-use Rattle.protocol.specs.Volatile.{bad-record}
-use Rattle.protocol.specs.Calls.{Test, test, first, common, bad-range, tagged-in, tagged, touched, stored-group, placing, tagging, completing, deciding, completed-first, recovering}
+use Rattle.boards.specs.Lists.{anyOf}
+use Rattle.boards.specs.Boards.{tagged-in, tagged}
+use Rattle.protocol.specs.Image.{Decision, Group, Tags, Current, Recovery, Tentative, Memory, Put, put, rank}
+use Rattle.protocol.specs.Image.{size, after, cells}
+use Rattle.protocol.specs.Accesses.{touched}
+use Rattle.protocol.specs.Calls.{bad-range, stored-group, placing, tagging, completing, deciding, completed-first}
+use Rattle.protocol.specs.Calls.{recovering}
 use Rattle.protocol.specs.declared.Shape.{Shape}
-use Rattle.protocol.specs.declared.Record.{Record}
-use Rattle.protocol.proofs.Basics.{or-false, All, none, also, all-append, all-cond, all-map, anyOf-false, or-right, all-take, take-append}
+use Rattle.boards.proofs.Basics.{or-false, All, none, also, all-append, all-cond, all-map, anyOf-false, or-right}
+use Rattle.boards.proofs.Basics.{all-take, take-append}
 use Rattle.protocol.proofs.Bridge.{Valid}
 use Rattle.protocol.proofs.Copies.{Inside, placing-inside, blocks-inside, contexts-inside, current, recovery}
-use Rattle.protocol.proofs.Safety.{block-below, announced, announced-length, announced-areas, stores-parts, deciding-stores, decision}
-use Rattle.protocol.proofs.Outcomes.{passed, decisive}
+use Rattle.protocol.proofs.Safety.{block-below, announced, announced-length, announced-areas, stores-parts}
+use Rattle.protocol.proofs.Safety.{deciding-stores, decision}
+use Rattle.protocol.proofs.Outcomes.{decisive}
 
--- ---- tests passed
-
-pub record Passed (s : Shape) (r : Record) (i : ℕ) (ts : List Test) : Type 0 where
-  pub recorded : bad-record (s .boards) r ≡ false
-  pub board : i < s .boards
-  pub rest : first ts ≡ 0
-
-pub common-passed : {s : Shape} (image : List ℕ) (r : Record) (i : ℕ) (ts : List Test) → shape-of image ≡ s
-    → first (common image r i ts) ≡ 0 → Passed s r i ts
-unfolding common
-common-passed {s} image r i ts h e =
-    let p = shape-of image .boards in
-    let one = passed (not (in-order 0 image)) 11 (test (bad-record p r) 12 ∷ test (leb p i) 1 ∷ ts) (omega arith) e in
-    let two = passed (bad-record p r) 12 (test (leb p i) 1 ∷ ts) (omega arith) (one .1) in
-    let three = passed (leb p i) 1 ts (omega arith) (two .1) in
-    record {
-      recorded = subst (λ t. bad-record (t .boards) r ≡ false) h (two .0);
-      board = subst (λ t. i < t .boards) h (leb-false p i (three .0));
-      rest = three .1;
-    }
+-- ---- accesses
 
 -- the cells of an access that is not refused
 pub record Ranged (s : Shape) (a n : ℕ) : Type 0 where

@@ -10,15 +10,20 @@ use lib.ListN.{length, getD, take, length-append}
 use lib.Seq.{take-all}
 use native.Mathlib.Omega.{arith}
 use borrow.Author.Tests.{eqb-true, eqb-false, ltb-true, ltb-false}
-use Rattle.protocol.specs.Lists.{for, span, anyOf}
-use Rattle.protocol.specs.Boards.{has}
-use Rattle.protocol.specs.Image.{Area, Decision, Group, Tags, Current, Recovery, Tentative, Checkpoint, Memory, Put, put, rank, change, after, cells}
-use Rattle.protocol.specs.Volatile.{beyond}
-use Rattle.protocol.specs.Calls.{tagged-in, tagged, touched, stored-group, placing, copying, tagging, block-copied, blocks-copied, context-saved, completing, deciding as deciding-puts, completed-first, recovering}
+use Rattle.boards.specs.Lists.{for, span, anyOf}
+use Rattle.boards.specs.Boards.{has, beyond, tagged-in, tagged}
+use Rattle.protocol.specs.Image.{Area, Decision, Group, Tags, Current, Recovery, Tentative, Checkpoint, Memory}
+use Rattle.protocol.specs.Image.{Put, put, rank, change, after, cells}
+use Rattle.protocol.specs.Accesses.{touched}
+use Rattle.protocol.specs.Calls.{stored-group, placing, copying, tagging, block-copied, blocks-copied}
+use Rattle.protocol.specs.Calls.{context-saved, completing, deciding as deciding-puts, completed-first}
+use Rattle.protocol.specs.Calls.{recovering}
 use Rattle.protocol.specs.declared.Shape.{Shape}
-use Rattle.protocol.proofs.Basics.{decide, clash, All, none, also, all-append, all-map, or-true, or-false, all-take, take-append}
+use Rattle.boards.proofs.Basics.{decide, clash, All, none, also, all-append, all-map, or-true, or-false, all-take}
+use Rattle.boards.proofs.Basics.{take-append}
 use Rattle.protocol.proofs.Memory.{after-append, change-area, change-index, change-same, untouched}
-use Rattle.protocol.proofs.Copies.{Partly, partly-copied, Copied, copied, contexts-other, contexts-left, contexts-saved, placing-other, placing-outside, length-placing, all-placing}
+use Rattle.protocol.proofs.Copies.{Partly, partly-copied, Copied, copied, contexts-other, contexts-left}
+use Rattle.protocol.proofs.Copies.{contexts-saved, placing-other, placing-outside, length-placing, all-placing}
 use Rattle.protocol.proofs.Accesses.{cell-touched}
 
 -- ---- what a memory tells: `cell a` and `context i` are the kept bytes of cell a and of board i

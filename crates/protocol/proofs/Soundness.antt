@@ -5,10 +5,12 @@ use mathlib.Core.Bool.{Bool, true, false}
 use mathlib.Core.List.{List, _∷_, map}
 use mathlib.Core.Option.{Option, none, some}
 use mathlib.Core.Logic.{_⊎_, inl, inr, ⊎-elim}
-use Rattle.protocol.specs.Boards.{Links, Chain, unlink}
-use Rattle.protocol.specs.Ledger.{Fate, pending, kept, undone, Note, is-pending, not-undone, sources-of, from-undone, reads-undone, settled}
-use Rattle.protocol.proofs.Basics.{decide, clash, refute, and-false, All, none, all-map, anyOf-false}
-use Rattle.protocol.proofs.Groups.{Forward, Backward, forward-chain, backward-chain, chain-outside-forward, chain-outside-backward, chain-more}
+use Rattle.boards.specs.Boards.{Links, Chain, unlink}
+use Rattle.protocol.specs.Ledger.{Fate, pending, kept, undone, Note, is-pending, not-undone, sources-of}
+use Rattle.protocol.specs.Ledger.{from-undone, reads-undone, settled}
+use Rattle.boards.proofs.Basics.{decide, clash, refute, and-false, All, none, all-map, anyOf-false}
+use Rattle.boards.proofs.Groups.{Forward, Backward, forward-chain, backward-chain, chain-outside-forward}
+use Rattle.boards.proofs.Groups.{chain-outside-backward, chain-more}
 use Rattle.protocol.proofs.Marks.{At, older, at-map, at-fate, fates}
 
 -- ---- reads

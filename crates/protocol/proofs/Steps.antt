@@ -10,19 +10,26 @@ use lib.ListN.{length, getD}
 use lib.Seq.{take-all}
 use native.Mathlib.Omega.{arith}
 use borrow.Author.Tests.{ltb-true, ltb-false, leb-true, lt-ltb, le-leb}
-use Rattle.protocol.specs.Lists.{span, anyOf}
-use Rattle.protocol.specs.Boards.{has, meets, link, unlink, Binding, one-way, two-way, bind-boards, bind-tag, bind-tags}
-use Rattle.protocol.specs.Image.{Area, Decision, Tags, Current, Recovery, Tentative, Checkpoint, Memory, rank, after, cells}
-use Rattle.protocol.specs.Volatile.{closed, depends, depend, clear}
-use Rattle.protocol.specs.Calls.{tagged-in, touched, tags-of, placing, tagging, blocks-copied}
-use Rattle.protocol.specs.Ledger.{pending, undone, Wrote, Read-from, Note, Ledger, is-pending, covers, written, wrote-in, writer, source, cleared, noted}
+use Rattle.boards.specs.Lists.{span, anyOf}
+use Rattle.boards.specs.Boards.{has, meets, tagged-in, link, unlink}
+use Rattle.protocol.specs.Image.{Area, Decision, Tags, Current, Recovery, Tentative, Checkpoint, Memory, rank}
+use Rattle.protocol.specs.Image.{after, cells}
+use Rattle.protocol.specs.Volatile.{closed, depends, left-open, depend, clear}
+use Rattle.protocol.specs.Accesses.{touched, Binding, one-way, two-way, read-binding, write-binding, bind-boards}
+use Rattle.protocol.specs.Accesses.{bind-tag, bind-blocks}
+use Rattle.protocol.specs.Calls.{placing, tagging, blocks-copied}
+use Rattle.protocol.specs.Ledger.{pending, undone, Wrote, Read-from, Note, Ledger, is-pending, covers, written}
+use Rattle.protocol.specs.Ledger.{wrote-in, writer, source, cleared, noted}
 use Rattle.protocol.specs.declared.Shape.{Shape}
 use Rattle.protocol.specs.declared.Record.{Record}
-use Rattle.protocol.proofs.Basics.{decide, clash, and-true, true-and, and-false, All, none, also}
+use Rattle.boards.proofs.Basics.{decide, clash, and-true, true-and, and-false, All, none, also, all-map}
 use Rattle.protocol.proofs.Memory.{after-append}
-use Rattle.protocol.proofs.Groups.{Backward, Bounded, bounded-more, links-ext, depends-depend, depends-clear, link-bounded, has-zero}
-use Rattle.protocol.proofs.Marks.{mark, marks, live, saved, tag-in, marks-settled, writer-settled, undoes, rollback-same, rollback-saved}
-use Rattle.protocol.proofs.Consistent.{Access-ok, all-tags, writer-below, read-covers, noted-read, noted-write, cleared-rollback}
+use Rattle.boards.proofs.Groups.{Backward, Bounded, bounded-more, link-bounded, has-zero}
+use Rattle.protocol.proofs.Records.{depends-depend, depends-clear}
+use Rattle.protocol.proofs.Marks.{mark, marks, live, saved, tag-in, marks-settled, writer-settled, undoes}
+use Rattle.protocol.proofs.Marks.{rollback-same, rollback-saved}
+use Rattle.protocol.proofs.Consistent.{Access-ok, writer-below, read-covers, noted-read, noted-write}
+use Rattle.protocol.proofs.Consistent.{cleared-rollback}
 use Rattle.protocol.proofs.Copies.{copied, placing-other, placing-outside, placing-whole}
 use Rattle.protocol.proofs.Safety.{block-below, write-tagged}
 use Rattle.protocol.proofs.Agreement.{On, agrees-clear, tag-in-same, untag-in, untag-out, rollback-in}
@@ -36,12 +43,12 @@ module _ {i : ℕ} (small : i < 16) where
       (depends (bind-boards depend how r i j))
   unfolding bind-boards
   depends-tie one-way r j l b =
-      let one = links-ext (depends-depend r b small l) in
+      let one = depends-depend r b small l in
       (one, subst (λ d. Bounded 16 d) (sym one) (link-bounded b small l))
   depends-tie two-way r j l b =
-      let one = links-ext (depends-depend r b small l) in
+      let one = depends-depend r b small l in
       let b₁ = subst (λ d. Bounded 16 d) (sym one) (link-bounded b small l) in
-      let two = links-ext (depends-depend (depend r i j) b₁ l small) ∙ ap (λ d. link d j i) one in
+      let two = depends-depend (depend r i j) b₁ l small ∙ ap (λ d. link d j i) one in
       (two, subst (λ d. Bounded 16 d) (sym two) (link-bounded (link-bounded b small l) l small))
 
   depends-bind : (how : Binding) (r : Record) (t : ℕ) → t ≤ 16 → Bounded 16 (depends r)
@@ -53,13 +60,15 @@ module _ {i : ℕ} (small : i < 16) where
       ⊎-elim (λ (e : eqb i j ≡ true). rw e (refl, b)) (λ (e : eqb i j ≡ false). rw e (depends-tie how r j l b))
       (decide (eqb i j))
 
-  pub depends-binds : (how : Binding) (r : Record) (ts : List ℕ) → All (λ t. t ≤ 16) ts → Bounded 16 (depends r)
-      → depends (bind-tags depend how r i ts) ≡ bind-tags link how (depends r) i ts
-  unfolding bind-tags
-  depends-binds how r [] none b = refl
-  depends-binds how r (t ∷ ts) (also l ls) b =
-      let one = depends-bind how r t l b in
-      depends-binds how (bind-tag depend how r i t) ts ls (one .1) ∙ ap (λ d. bind-tags link how d i ts) (one .0)
+  pub depends-binds : (how : ℕ → Binding) (tag : ℕ → ℕ) (r : Record) (bs : List ℕ) → ((b : ℕ) → tag b ≤ 16)
+      → Bounded 16 (depends r)
+      → depends (bind-blocks depend how tag r i bs) ≡ bind-blocks link how tag (depends r) i bs
+  unfolding bind-blocks
+  depends-binds how tag r [] l b = refl
+  depends-binds how tag r (c ∷ bs) l b =
+      let one = depends-bind (how c) r (tag c) (l c) b in
+      depends-binds how tag (bind-tag depend (how c) r i (tag c)) bs l (one .1)
+      ∙ ap (λ d. bind-blocks link how tag d i bs) (one .0)
 
 -- it leaves the open commit alone
 commit-tie : (how : Binding) (r : Record) (i j : ℕ) → bind-boards depend how r i j .commit ≡ r .commit
@@ -73,20 +82,28 @@ commit-bind how r i zero = refl
 commit-bind how r i (suc j) =
     ⊎-elim (λ (e : eqb i j ≡ true). rw e) (λ (e : eqb i j ≡ false). rw e (commit-tie how r i j)) (decide (eqb i j))
 
-pub commit-binds : (how : Binding) (r : Record) (i : ℕ) (ts : List ℕ)
-    → bind-tags depend how r i ts .commit ≡ r .commit
-unfolding bind-tags
-commit-binds how r i [] = refl
-commit-binds how r i (t ∷ ts) = commit-binds how (bind-tag depend how r i t) i ts ∙ commit-bind how r i t
+pub commit-binds : (how : ℕ → Binding) (tag : ℕ → ℕ) (r : Record) (i : ℕ) (bs : List ℕ)
+    → bind-blocks depend how tag r i bs .commit ≡ r .commit
+unfolding bind-blocks
+commit-binds how tag r i [] = refl
+commit-binds how tag r i (b ∷ bs) =
+    commit-binds how tag (bind-tag depend (how b) r i (tag b)) i bs ∙ commit-bind (how b) r i (tag b)
+
+-- blocks with the same tags are bound alike
+binds-same : (how : ℕ → Binding) (tag tag′ : ℕ → ℕ) (r : Record) (i : ℕ) (bs : List ℕ) → All (λ b. tag b ≡ tag′ b) bs
+    → bind-blocks depend how tag r i bs ≡ bind-blocks depend how tag′ r i bs
+unfolding bind-blocks
+binds-same how tag tag′ r i [] none = refl
+binds-same how tag tag′ r i (b ∷ bs) (also e es) =
+    ap (λ t. bind-blocks depend how tag (bind-tag depend (how b) r i t) i bs) e
+    ∙ binds-same how tag tag′ (bind-tag depend (how b) r i (tag′ b)) i bs es
 
 -- ---- accesses
 
--- the tags of the touched blocks are the last writers that the ledger notes
-pub tags-written : {s : Shape} {m : Memory} {r : Record} {l : Ledger} → On s m r l → (bs : List ℕ)
-    → All (λ b. b < s .blocks) bs
-    → map (m Tags) bs ≡ map (writer s (l .notes)) bs
-tags-written h [] none = refl
-tags-written h (b ∷ bs) (also k ks) = rw (h .tags b k, tags-written h bs ks)
+-- the tags of blocks are the last writers that the ledger notes
+pub tags-written : {s : Shape} {m : Memory} {r : Record} {l : Ledger} → On s m r l → {bs : List ℕ}
+    → All (λ b. b < s .blocks) bs → All (λ b. m Tags b ≡ writer s (l .notes) b) bs
+tags-written h = all-map (λ b k. h .tags b k)
 
 module _ {s : Shape} {m : Memory} {r : Record} {l : Ledger} (h : On s m r l) (most : s .boards ≤ 16) where
   pub depends-bounded : Bounded 16 (depends r)
@@ -95,27 +112,26 @@ module _ {s : Shape} {m : Memory} {r : Record} {l : Ledger} (h : On s m r l) (mo
   small-tag : (b : ℕ) → writer s (l .notes) b ≤ 16
   small-tag b = let k = writer-below s (l .notes) (h .consistent .boards) b in omega arith
 
-  access-links : (how : Binding) (i a n : ℕ) → i < s .boards → All (λ b. b < s .blocks) (touched s a n)
-      → depends (bind-tags depend how r i (tags-of s m a n)) ≡ bind-tags link how (l .links) i
-      (map (writer s (l .notes)) (touched s a n))
+  access-links : (how : ℕ → Binding) (i a n : ℕ) → i < s .boards → All (λ b. b < s .blocks) (touched s a n)
+      → depends (bind-blocks depend how (m Tags) r i (touched s a n))
+      ≡ bind-blocks link how (writer s (l .notes)) (l .links) i (touched s a n)
   access-links how i a n small below =
-      let ts = map (writer s (l .notes)) (touched s a n) in
-      ap (λ us. depends (bind-tags depend how r i us)) (tags-written h (touched s a n) below)
-      ∙ depends-binds {i = i} (omega arith) how r ts
-      (all-tags (writer s (l .notes)) small-tag (touched s a n)) depends-bounded
-      ∙ ap (λ d. bind-tags link how d i ts) (h .links)
+      let noted-tags = writer s (l .notes) in
+      ap depends (binds-same how (m Tags) noted-tags r i (touched s a n) (tags-written h below))
+      ∙ depends-binds {i = i} (omega arith) how noted-tags r (touched s a n) small-tag depends-bounded
+      ∙ ap (λ d. bind-blocks link how noted-tags d i (touched s a n)) (h .links)
 
   -- a read
-  pub read-done : {i a n : ℕ} → Access-ok s one-way i a n l → All (λ b. b < s .blocks) (touched s a n)
-      → On s m (bind-tags depend one-way r i (tags-of s m a n))
-      (noted s one-way i a n (Read-from (span (source (l .notes)) a n)) l)
+  pub read-done : {i a n : ℕ} → Access-ok s read-binding i a n l → All (λ b. b < s .blocks) (touched s a n)
+      → On s m (bind-blocks depend read-binding (m Tags) r i (touched s a n))
+      (noted s read-binding i a n (Read-from (span (source (l .notes)) a n)) l)
   unfolding noted writer wrote-in written marks
   read-done {i} {a} {n} ok below =
       let os = span (source (l .notes)) a n in
-      let same = commit-binds one-way r i (tags-of s m a n) in
+      let same = commit-binds read-binding (m Tags) r i (touched s a n) in
       record {
         consistent = noted-read (h .consistent) ok;
-        links = access-links one-way i a n (ok .board) below;
+        links = access-links read-binding i a n (ok .board) below;
         undecided = h .undecided;
         tags = h .tags;
         current = λ c k. rw (read-covers i a c pending os) (h .current c k);
@@ -127,7 +143,7 @@ module _ {s : Shape} {m : Memory} {r : Record} {l : Ledger} (h : On s m r l) (mo
       }
 
   -- a write: the touched blocks are tagged, the covered cells hold the bytes
-  module _ {i a : ℕ} (bytes : List ℕ) (ok : Access-ok s two-way i a (length bytes) l)
+  module _ {i a : ℕ} (bytes : List ℕ) (ok : Access-ok s (write-binding s a (length bytes)) i a (length bytes) l)
       (below : All (λ b. b < s .blocks) (touched s a (length bytes))) where
     abbrev bs : List ℕ
     bs = touched s a (length bytes)
@@ -200,14 +216,17 @@ module _ {s : Shape} {m : Memory} {r : Record} {l : Ledger} (h : On s m r l) (mo
     unfolding marks mark saved new
     write-kept c = ⊎-elim (λ (e : covers new c ≡ true). rw e) (λ (e : covers new c ≡ false). rw e) (decide (covers new c))
 
-    pub write-done : On s written-memory (bind-tags depend two-way r i (tags-of s m a (length bytes)))
-        (noted s two-way i a (length bytes) (Wrote bytes) l)
+    abbrev how : ℕ → Binding
+    how = write-binding s a (length bytes)
+
+    pub write-done : On s written-memory (bind-blocks depend how (m Tags) r i bs)
+        (noted s how i a (length bytes) (Wrote bytes) l)
     unfolding noted rank new
     write-done =
-        let same = commit-binds two-way r i (tags-of s m a (length bytes)) in
+        let same = commit-binds how (m Tags) r i bs in
         record {
           consistent = noted-write (h .consistent) bytes ok;
-          links = access-links two-way i a (length bytes) (ok .board) below;
+          links = access-links how i a (length bytes) (ok .board) below;
           undecided = beyond-tags Decision 0 (omega arith) (omega arith) ∙ h .undecided;
           tags = write-tags;
           current = write-cell;
@@ -232,7 +251,7 @@ module _ {s : Shape} {m : Memory} {r : Record} {l : Ledger} (h : On s m r l) (mo
     tag-noted b k t e = sym (tag-in-same g (writer s (l .notes) b)) ∙ ap (tagged-in g) (sym (h .tags b k)) ∙ e
 
     cleared-given : (j : ℕ) → has (clear r g .commit .acknowledged) j ≡ true → has (r .commit .acknowledged) j ≡ true
-    unfolding clear closed
+    unfolding clear left-open closed
     cleared-given j e =
         ⊎-elim
         (λ (t : meets (r .commit .members) (has g) ≡ true). clash (rw t at e) (has-zero j))
@@ -245,7 +264,7 @@ module _ {s : Shape} {m : Memory} {r : Record} {l : Ledger} (h : On s m r l) (mo
         let c = copied s Recovery Current (tagged-in g) (omega arith) positive m in
         record {
           consistent = cleared-rollback (h .consistent) (has g) back;
-          links = links-ext (depends-clear r depends-bounded g) ∙ ap (unlink (has g)) (h .links);
+          links = depends-clear r depends-bounded g ∙ ap (unlink (has g)) (h .links);
           undecided = c .other Decision (omega arith) (omega arith) 0 ∙ h .undecided;
           tags =
               λ b k.

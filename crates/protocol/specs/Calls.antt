@@ -1,54 +1,32 @@
--- Every call: when it is refused, what it stores, what it answers (document 01, from "Accesses" to the refusals).
-use Prim.Native.Nat.{ℕ, zero, suc, _+_, _-_, _*_, _/_, _%_}
-use mathlib.Core.Bool.{Bool, true, false, _&&_, _||_, not, cond}
+-- Every call but Same: when it is refused, what it stores, what it answers (document 01, from "Accesses" to the
+-- refusals).
+use Prim.Native.Nat.{ℕ, suc, _+_, _-_, _*_, _/_, _%_}
+use mathlib.Core.Bool.{Bool, false, _&&_, _||_, not, cond}
 use mathlib.Core.List.{List, [], _∷_, _++_, map}
 use lib.Dec.{eqb, ltb, leb}
 use lib.ListN.{length, getD, take, drop}
-use Rattle.protocol.specs.Lists.{for, span, every, any, anyOf}
-use Rattle.protocol.specs.Boards.{has, one-way, two-way, bind-tags, commit-group, fault-group}
-use Rattle.protocol.specs.Image.{Memory, Area, Decision, Group, Tags, Current, Recovery, Tentative, Checkpoint, cells, contexts, allowed, total, header, mark, shape-of, in-order, view, base, Store, made, Put, put, raw, after}
-use Rattle.protocol.specs.Volatile.{fresh, off, depends, depend, clear, opened, acknowledge, beyond, bad-record}
+use Rattle.boards.specs.Lists.{for, span, any, anyOf}
+use Rattle.boards.specs.Boards.{has, beyond, tagged-in, tagged, commit-group, fault-group}
+use Rattle.protocol.specs.Image.{Memory, Area, Decision, Group, Tags, Current, Recovery, Tentative, Checkpoint}
+use Rattle.protocol.specs.Image.{cells, allowed, total, header, mark, shape-of, in-order, view, base}
+use Rattle.protocol.specs.Image.{Store, made, Put, put, raw, after}
+use Rattle.protocol.specs.Volatile.{fresh, off, depends, engaged, commit-of, depend, clear, opened, acknowledge}
+use Rattle.protocol.specs.Volatile.{bad-record}
+use Rattle.protocol.specs.Accesses.{touched, read-binding, write-binding, bind-blocks}
 use Rattle.protocol.specs.declared.Shape.{Shape}
 use Rattle.protocol.specs.declared.Record.{Record}
 use Rattle.protocol.specs.declared.Answer.{Answer}
 use Rattle.protocol.specs.declared.Reply.{Reply}
-use Rattle.protocol.specs.declared.Compared.{Compared}
 
--- The calls of demand 3's lists, with all arguments but image and record: boards and cells by number, bytes,
--- last the budget k, which document 01 calls the allowance; of a read's answer buffer its length, `room`.
-pub data Call : Type 0 where
-  Read : (board cell n room : ℕ) → Call
-  Write : (board cell : ℕ) (bytes : List ℕ) (k : ℕ) → Call
-  Start : (board : ℕ) (context : List ℕ) (k : ℕ) → Call
-  Acknowledge : (board : ℕ) (context : List ℕ) (k : ℕ) → Call
-  Fault : (board k : ℕ) → Call
-  Power-up : (k : ℕ) → Call
-
-unfoldable pub budget : Call → ℕ
-budget (Read board cell n room) = 0
-budget (Write board cell bytes k) = k
-budget (Start board context k) = k
-budget (Acknowledge board context k) = k
-budget (Fault board k) = k
-budget (Power-up k) = k
-
--- ---- tags
-
--- a block's tag names a member of g; a block has an active writer
-unfoldable pub tagged-in : ℕ → ℕ → Bool
-tagged-in g zero = false
-tagged-in g (suc j) = has g j
-
-unfoldable pub tagged : ℕ → Bool
-tagged zero = false
-tagged (suc j) = true
-
--- the blocks that n cells from a on touch, if n is not 0: the first, and the last if it is another
-unfoldable pub touched : Shape → ℕ → ℕ → List ℕ
-touched s a n =
-    let first = a / s .size in
-    let last = (a + n - 1) / s .size in
-    first ∷ cond (eqb first last) [] (last ∷ [])
+-- What a call asks for, with all arguments but image, record and budget: boards and cells by number, bytes; of
+-- a read's answer buffer its length, `room`. (Document 01 calls the papers that come later "requests"; not here.)
+pub data Request : Type 0 where
+  Read : (board cell n room : ℕ) → Request
+  Write : (board cell : ℕ) (bytes : List ℕ) → Request
+  Start : (board : ℕ) (context : List ℕ) → Request
+  Acknowledge : (board : ℕ) (context : List ℕ) → Request
+  Fault : (board : ℕ) → Request
+  Power-up : Request
 
 abbrev pub tags-of : Shape → Memory → ℕ → ℕ → List ℕ
 tags-of s m a n = map (m Tags) (touched s a n)
@@ -87,39 +65,52 @@ bad-decision s m =
     let g = stored-group m in
     eqb (m Decision 0) 1 && (eqb g 0 || beyond (s .boards) g)
 
--- what every call above but power-up tests first: 11 for the header, 12, 1
-unfoldable pub common : List ℕ → Record → ℕ → List Test → List Test
-common image r i tests =
-    let p = shape-of image .boards in
-    test (not (in-order 0 image)) 11 ∷ test (bad-record p r) 12 ∷ test (leb p i) 1 ∷ tests
+-- Each call's tests, in the stated order.
 
-unfoldable pub refusals : List ℕ → Shape → Memory → Record → Call → List Test
-refusals image s m r (Read i a n room) =
-    common image r i
-    (test (bad-range s a n) 2
+-- what every request but power-up tests first: 11 for the header, 12, 1
+unfoldable pub entry-tests : List ℕ → Record → ℕ → List Test
+entry-tests image r i =
+    let p = shape-of image .boards in
+    test (not (in-order 0 image)) 11 ∷ test (bad-record p r) 12 ∷ test (leb p i) 1 ∷ []
+
+unfoldable pub read-tests : Shape → Memory → Record → ℕ → ℕ → ℕ → ℕ → List Test
+read-tests s m r i a n room =
+    test (bad-range s a n) 2
     ∷ test (ltb room n) 5
     ∷ test (anyOf (ltb (s .boards)) (tags-of s m a n)) 11
-    ∷ test (has (r .commit .members) i) 13
-    ∷ [])
-refusals image s m r (Write i a bytes k) =
-    let tags = tags-of s m a (length bytes) in
-    common image r i
-    (test (bad-range s a (length bytes)) 2
+    ∷ test (has (engaged r) i) 13
+    ∷ []
+
+unfoldable pub write-tests : Shape → Memory → Record → ℕ → ℕ → ℕ → List Test
+write-tests s m r i a n =
+    let tags = tags-of s m a n in
+    test (bad-range s a n) 2
     ∷ test (anyOf (ltb (s .boards)) tags) 11
-    ∷ test (has (r .commit .members) i || anyOf (tagged-in (r .commit .members)) tags) 13
-    ∷ [])
-refusals image s m r (Start i context k) =
-    common image r i
-    (test (not (eqb (length context) (s .context))) 3 ∷ test (not (eqb (r .commit .members) 0)) 14 ∷ [])
-refusals image s m r (Acknowledge i context k) =
-    common image r i
-    (test (not (eqb (length context) (s .context))) 3
-    ∷ test (not (has (r .commit .members) i)) 15
-    ∷ test (has (r .commit .acknowledged) i) 16
-    ∷ [])
-refusals image s m r (Fault i k) = common image r i []
-refusals image s m r (Power-up k) =
+    ∷ test (has (engaged r) i || anyOf (tagged-in (engaged r)) tags) 13
+    ∷ []
+
+-- in these two n is the length of the context
+unfoldable pub start-tests : Shape → Record → ℕ → List Test
+start-tests s r n = test (not (eqb n (s .context))) 3 ∷ test (not (eqb (engaged r) 0)) 14 ∷ []
+
+unfoldable pub acknowledge-tests : Shape → Record → ℕ → ℕ → List Test
+acknowledge-tests s r i n =
+    test (not (eqb n (s .context))) 3
+    ∷ test (not (has (engaged r) i)) 15
+    ∷ test (has (commit-of r i .acknowledged) i) 16
+    ∷ []
+
+unfoldable pub power-tests : List ℕ → Shape → Memory → List Test
+power-tests image s m =
     test (not (in-order 1 image)) 11 ∷ test (bad-tags s m) 11 ∷ test (bad-decision s m) 11 ∷ []
+
+unfoldable pub refusals : List ℕ → Shape → Memory → Record → Request → List Test
+refusals image s m r (Read i a n room) = entry-tests image r i ++ read-tests s m r i a n room
+refusals image s m r (Write i a bytes) = entry-tests image r i ++ write-tests s m r i a (length bytes)
+refusals image s m r (Start i context) = entry-tests image r i ++ start-tests s r (length context)
+refusals image s m r (Acknowledge i context) = entry-tests image r i ++ acknowledge-tests s r i (length context)
+refusals image s m r (Fault i) = entry-tests image r i
+refusals image s m r Power-up = power-tests image s m
 
 -- ---- stores
 
@@ -181,8 +172,9 @@ pub record Plan : Type 0 where
 unfoldable pub acknowledging : Shape → Memory → Record → ℕ → List ℕ → Plan
 acknowledging s m before i context =
     let r = acknowledge before i in
-    let g = r .commit .members in
-    let all = eqb (r .commit .acknowledged) g in
+    let c = commit-of r i in
+    let g = c .members in
+    let all = eqb (c .acknowledged) g in
     let given = placing Tentative (i * s .context) context in
     record {
       group = g;
@@ -191,22 +183,28 @@ acknowledging s m before i context =
       bytes = [];
     }
 
-unfoldable pub plan : Shape → Memory → Record → Call → Plan
+unfoldable pub plan : Shape → Memory → Record → Request → Plan
 plan s m r (Read i a n room) =
-    record { group = 0; next = bind-tags depend one-way r i (tags-of s m a n); stores = []; bytes = span (m Current) a n }
-plan s m r (Write i a bytes k) =
     record {
       group = 0;
-      next = bind-tags depend two-way r i (tags-of s m a (length bytes));
-      stores = tagging m i (touched s a (length bytes)) ++ placing Current a bytes;
+      next = bind-blocks depend read-binding (m Tags) r i (touched s a n);
+      stores = [];
+      bytes = span (m Current) a n;
+    }
+plan s m r (Write i a bytes) =
+    let n = length bytes in
+    record {
+      group = 0;
+      next = bind-blocks depend (write-binding s a n) (m Tags) r i (touched s a n);
+      stores = tagging m i (touched s a n) ++ placing Current a bytes;
       bytes = [];
     }
-plan s m r (Start i context k) = acknowledging s m (opened r i (commit-group (depends r) i)) i context
-plan s m r (Acknowledge i context k) = acknowledging s m r i context
-plan s m r (Fault i k) =
+plan s m r (Start i context) = acknowledging s m (opened r i (commit-group (depends r) i)) i context
+plan s m r (Acknowledge i context) = acknowledging s m r i context
+plan s m r (Fault i) =
     let g = fault-group (depends r) i in
     record { group = g; next = clear r g; stores = blocks-copied s m Recovery Current (tagged-in g); bytes = [] }
-plan s m r (Power-up k) = record { group = 0; next = fresh; stores = recovering s m; bytes = [] }
+plan s m r Power-up = record { group = 0; next = fresh; stores = recovering s m; bytes = [] }
 
 -- ---- answers
 
@@ -217,13 +215,11 @@ pub record Outcome : Type 0 where
   pub bytes : List ℕ
 
 -- a refusal: its number, zero and no for the rest; nothing changed
+abbrev pub refusal-of : ℕ → Record → Reply
+refusal-of n r = record { answer = record { status = n; decided = false; group = 0; stores = 0 }; next = r }
+
 unfoldable pub refused : ℕ → List ℕ → Record → Outcome
-refused n image r =
-    record {
-      reply = record { answer = record { status = n; decided = false; group = 0; stores = 0 }; next = r };
-      image = image;
-      bytes = [];
-    }
+refused n image r = record { reply = refusal-of n r; image = image; bytes = [] }
 
 -- whether a store sets byte 9 to 1
 unfoldable pub decides : Store → Bool
@@ -241,23 +237,29 @@ executed k stores image group next bytes =
     record { reply = record { answer = answer; next = cond cut off next }; image = made some image; bytes = cond cut [] bytes }
 
 -- a refused power-up answers the off record, every other refused call the record that it was given
-unfoldable pub record-refused : Record → Call → Record
+unfoldable pub record-refused : Record → Request → Record
 record-refused r (Read board cell n room) = r
-record-refused r (Write board cell bytes k) = r
-record-refused r (Start board context k) = r
-record-refused r (Acknowledge board context k) = r
-record-refused r (Fault board k) = r
-record-refused r (Power-up k) = off
+record-refused r (Write board cell bytes) = r
+record-refused r (Start board context) = r
+record-refused r (Acknowledge board context) = r
+record-refused r (Fault board) = r
+record-refused r Power-up = off
 
-unfoldable pub perform : List ℕ → Record → Call → Outcome
-perform image r call =
+-- the number of a request's refusal, 0 for none
+abbrev pub refusal-at : List ℕ → Record → Request → ℕ
+refusal-at image r request = first (refusals image (shape-of image) (view (shape-of image) image) r request)
+
+-- a plan carried out under a budget of k stores
+abbrev pub carried-out : Shape → Plan → ℕ → List ℕ → Outcome
+carried-out s p k image = executed k (map (raw s) (p .stores)) image (p .group) (p .next) (p .bytes)
+
+-- a request with a budget of k stores, which document 01 calls the allowance; a read makes none
+unfoldable pub perform : List ℕ → Record → Request → ℕ → Outcome
+perform image r request k =
     let s = shape-of image in
-    let m = view s image in
-    let n = first (refusals image s m r call) in
-    let p = plan s m r call in
-    cond (eqb n 0)
-    (executed (budget call) (map (raw s) (p .stores)) image (p .group) (p .next) (p .bytes))
-    (refused n image (record-refused r call))
+    let n = refusal-at image r request in
+    cond (eqb n 0) (carried-out s (plan s (view s image) r request) k image)
+    (refused n image (record-refused r request))
 
 -- a read changes only the first n bytes of its answer buffer
 unfoldable pub filled : List ℕ → List ℕ → List ℕ
@@ -265,8 +267,8 @@ filled bytes buffer = bytes ++ drop (length bytes) buffer
 
 -- ---- format
 
-unfoldable pub format-refusals : Shape → List ℕ → List Test
-format-refusals s image = test (not (allowed s)) 4 ∷ test (not (eqb (length image) (total s))) 5 ∷ []
+unfoldable pub format-tests : Shape → List ℕ → List Test
+format-tests s image = test (not (allowed s)) 4 ∷ test (not (eqb (length image) (total s))) 5 ∷ []
 
 -- byte 0 to 0, the others ascending, then byte 0 to the mark's first byte
 unfoldable pub formatting : Shape → List Store
@@ -277,41 +279,20 @@ formatting s =
 
 unfoldable pub format : Shape → List ℕ → Record → ℕ → Outcome
 format s image r k =
-    let n = first (format-refusals s image) in
+    let n = first (format-tests s image) in
     cond (eqb n 0) (executed k (formatting s) image 0 fresh []) (refused n image r)
 
--- ---- Context and Same, which change nothing
+-- ---- Context, which changes nothing
+
+-- 11 for the header, 1
+unfoldable pub context-tests : List ℕ → ℕ → List Test
+context-tests image i = test (not (in-order 0 image)) 11 ∷ test (leb (shape-of image .boards) i) 1 ∷ []
 
 -- 0 or the refusal, and the board's recovery context, a part of the image
-unfoldable pub context-status : List ℕ → ℕ → ℕ
-context-status image i =
-    first (test (not (in-order 0 image)) 11 ∷ test (leb (shape-of image .boards) i) 1 ∷ [])
+abbrev pub context-status : List ℕ → ℕ → ℕ
+context-status image i = first (context-tests image i)
 
 unfoldable pub context-part : List ℕ → ℕ → List ℕ
 context-part image i =
     let s = shape-of image in
     cond (eqb (context-status image i) 0) (take (s .context) (drop (base s Checkpoint + i * s .context) image)) []
-
--- P, S, B and K agree
-unfoldable pub same-shape : Shape → Shape → Bool
-same-shape s t =
-    eqb (s .boards) (t .boards)
-    && (eqb (s .size) (t .size) && (eqb (s .blocks) (t .blocks) && eqb (s .context) (t .context)))
-
--- two memories agree on the first n bytes of an area
-unfoldable pub same-area : Memory → Memory → Area → ℕ → Bool
-same-area m n area size = every size (λ i. eqb (m area i) (n area i))
-
-unfoldable pub compare : List ℕ → List ℕ → Compared
-compare image other =
-    let s = shape-of image in
-    let t = shape-of other in
-    let m = view s image in
-    let n = view t other in
-    let status = first (test (not (in-order 0 image)) 11 ∷ test (not (in-order 0 other)) 11 ∷ []) in
-    record {
-      status = status;
-      same =
-          eqb status 0
-          && (same-shape s t && (same-area m n Recovery (cells s) && same-area m n Checkpoint (contexts s)));
-    }

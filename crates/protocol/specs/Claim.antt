@@ -4,14 +4,16 @@ use mathlib.Core.Path.{_≡_}
 use mathlib.Core.Bool.{Bool, true, false, cond}
 use mathlib.Core.List.{List, [], _∷_}
 use mathlib.Core.Option.{Option}
-use mathlib.Core.Logic.{_≢_, _↔_}
+use mathlib.Core.Logic.{_≢_}
 use lib.ListN.{length}
 use lib.Dec.{eqb}
-use Rattle.protocol.specs.Lists.{anyOf}
-use Rattle.protocol.specs.Boards.{has, Links, commit-group, fault-group, Chain}
+use Rattle.boards.specs.Lists.{anyOf}
+use Rattle.boards.specs.Boards.{fault-group}
 use Rattle.protocol.specs.Image.{cells, byte, base, Area, allowed, total}
-use Rattle.protocol.specs.Calls.{Call, Read, Write, Start, Acknowledge, Fault, Power-up, Outcome, perform, format, context-status, context-part}
-use Rattle.protocol.specs.Ledger.{Verdict, refused, done, cut, Note, Ledger, blank, source, byte-from, sources-of, reads-undone, members-of, started, decides-now, update}
+use Rattle.protocol.specs.Calls.{Request, Read, Write, Start, Acknowledge, Fault, Power-up, Outcome, perform}
+use Rattle.protocol.specs.Calls.{format, context-status, context-part}
+use Rattle.protocol.specs.Ledger.{Verdict, refused, done, cut, Note, Ledger, blank, source, byte-from, sources-of}
+use Rattle.protocol.specs.Ledger.{reads-undone, members-of, started, decides-now, update}
 use Rattle.protocol.specs.declared.Shape.{Shape}
 use Rattle.protocol.specs.declared.Record.{Record}
 
@@ -28,28 +30,33 @@ pub record System : Type 0 where
   pub ledger : Ledger
   pub waiting : Bool
 
-unfoldable pub waits : Call → Verdict → Bool → Bool
-waits call refused w = w
-waits call cut w = true
+-- a call of a list: what it asks for, and its allowance
+pub record Call : Type 0 where
+  pub request : Request
+  pub k : ℕ
+
+unfoldable pub waits : Request → Verdict → Bool → Bool
+waits request refused w = w
+waits request cut w = true
 waits (Read i a n room) done w = w
-waits (Write i a bytes k) done w = w
-waits (Start i context k) done w = w
-waits (Acknowledge i context k) done w = w
-waits (Fault i k) done w = w
-waits (Power-up k) done w = false
+waits (Write i a bytes) done w = w
+waits (Start i context) done w = w
+waits (Acknowledge i context) done w = w
+waits (Fault i) done w = w
+waits Power-up done w = false
 
--- what a call answers in a world, and the world after it
-unfoldable pub answer : System → Call → Outcome
-answer w call = perform (w .image) (w .state) call
+-- what a request with allowance k is answered in a system, and the system after it
+unfoldable pub answer : System → Request → ℕ → Outcome
+answer w request k = perform (w .image) (w .state) request k
 
-unfoldable pub next : Shape → System → Call → System
-next s w call =
-    let o = answer w call in
+unfoldable pub next : Shape → System → Request → ℕ → System
+next s w request k =
+    let o = answer w request k in
     record {
       image = o .image;
       state = o .reply .next;
-      ledger = update s call (verdict o) (w .ledger);
-      waiting = waits call (verdict o) (w .waiting);
+      ledger = update s request k (verdict o) (w .ledger);
+      waiting = waits request (verdict o) (w .waiting);
     }
 
 -- the image and record that a format leaves, with a blank ledger
@@ -86,25 +93,24 @@ pub record Commits (s : Shape) (i : ℕ) (context : List ℕ) (k : ℕ) (l : Led
   pub members : verdict o ≡ done → o .reply .answer .group ≡ members-of i (l .commits)
   pub decided : o .reply .answer .decided ≡ decides-now s i context k l (verdict o)
 
-abbrev pub Answers : Shape → System → Call → Type 0
-Answers s w (Read i a n room) =
-    verdict (answer w (Read i a n room)) ≡ done
-    → answer w (Read i a n room) .bytes
-    ≡ bytes-from (next s w (Read i a n room) .ledger .notes) a (newest (next s w (Read i a n room) .ledger .notes))
-Answers s w (Write i a bytes k) = Unit {0}
-Answers s w (Start i context k) =
-    Commits s i context k (started i (w .ledger)) (answer w (Start i context k))
-Answers s w (Acknowledge i context k) =
-    Commits s i context k (w .ledger) (answer w (Acknowledge i context k))
-Answers s w (Fault i k) =
-    verdict (answer w (Fault i k)) ≡ done
-    → answer w (Fault i k) .reply .answer .group ≡ fault-group (w .ledger .links) i
-Answers s w (Power-up k) = verdict (answer w (Power-up k)) ≢ refused
+abbrev pub Answers : Shape → System → Request → ℕ → Type 0
+Answers s w (Read i a n room) k =
+    verdict (answer w (Read i a n room) k) ≡ done
+    → answer w (Read i a n room) k .bytes
+    ≡ bytes-from (next s w (Read i a n room) k .ledger .notes) a (newest (next s w (Read i a n room) k .ledger .notes))
+Answers s w (Write i a bytes) k = Unit {0}
+Answers s w (Start i context) k = Commits s i context k (started i (w .ledger)) (answer w (Start i context) k)
+Answers s w (Acknowledge i context) k = Commits s i context k (w .ledger) (answer w (Acknowledge i context) k)
+Answers s w (Fault i) k =
+    verdict (answer w (Fault i) k) ≡ done
+    → answer w (Fault i) k .reply .answer .group ≡ fault-group (w .ledger .links) i
+Answers s w Power-up k = verdict (answer w Power-up k) ≢ refused
 
 -- The whole list: at each point what holds there, and of each call its answer.
 pub data Faithful (s : Shape) : System → List Call → Type 0 where
   end : {w : System} → Holds s w → Faithful s w []
-  and-then : {w : System} {c : Call} {cs : List Call} → Holds s w → Answers s w c → Faithful s (next s w c) cs
+  and-then : {w : System} {c : Call} {cs : List Call} → Holds s w → Answers s w (c .request) (c .k)
+      → Faithful s (next s w (c .request) (c .k)) cs
       → Faithful s w (c ∷ cs)
 
 -- Demand 3: every list of calls after a finished format of any shape, any buffer, record and allowance.
@@ -119,9 +125,3 @@ abbrev pub Format-done : Type 0
 Format-done =
     (s : Shape) (image : List ℕ) (r : Record) (k : ℕ) → allowed s ≡ true → length image ≡ total s → total s + 1 ≤ k
     → verdict (format s image r k) ≡ done
-
--- A board is in a group exactly when a chain of dependences leads there.
-abbrev pub Groups-follow-chains : Type 0
-Groups-follow-chains =
-    (d : Links) → ((a b : ℕ) → d a b ≡ true → (a < 16) × (b < 16)) → (i : ℕ) → i < 16 → (j : ℕ)
-    → ((has (commit-group d i) j ≡ true) ↔ Chain d i j) × ((has (fault-group d i) j ≡ true) ↔ Chain d j i)

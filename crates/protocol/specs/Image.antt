@@ -4,7 +4,7 @@ use mathlib.Core.Bool.{Bool, _&&_, cond}
 use mathlib.Core.List.{List, [], _∷_, _++_}
 use lib.Dec.{eqb, ltb, leb}
 use lib.ListN.{length, getD, set}
-use Rattle.protocol.specs.Lists.{any, every}
+use Rattle.boards.specs.Lists.{any, every}
 use Rattle.protocol.specs.declared.Shape.{Shape}
 
 -- ---- shapes

@@ -1,14 +1,15 @@
--- The ledger (document 01, "The ledger"): it is told the shape, each call and whether it was refused, done or
--- cut. Of a read's buffer it uses nothing.
+-- The ledger (document 01, "The ledger"): it is told the shape, each request with its allowance, and whether it was
+-- refused, done or cut. Of a read's buffer it uses nothing.
 use Prim.Native.Nat.{ℕ, suc, _+_, _-_}
 use mathlib.Core.Bool.{Bool, true, false, _&&_, not, cond}
 use mathlib.Core.List.{List, [], _∷_, map}
 use mathlib.Core.Option.{Option, none, some}
 use lib.Dec.{eqb, ltb, leb}
 use lib.ListN.{length, getD, replicate}
-use Rattle.protocol.specs.Lists.{span, anyOf, select}
-use Rattle.protocol.specs.Boards.{has, with-board, meets, Links, unlinked, link, unlink, Binding, one-way, two-way, bind-tags, commit-group, fault-group}
-use Rattle.protocol.specs.Calls.{Call, Read, Write, Start, Acknowledge, Fault, Power-up, touched}
+use Rattle.boards.specs.Lists.{span, anyOf, select}
+use Rattle.boards.specs.Boards.{has, with-board, meets, Links, unlinked, link, unlink, commit-group, fault-group}
+use Rattle.protocol.specs.Accesses.{touched, Binding, read-binding, write-binding, bind-blocks}
+use Rattle.protocol.specs.Calls.{Request, Read, Write, Start, Acknowledge, Fault, Power-up}
 use Rattle.protocol.specs.declared.Shape.{Shape}
 
 -- all that the ledger is told of an answer
@@ -32,7 +33,7 @@ pub record Note : Type 0 where
   pub fate : Fate
 
 -- an open commit
-pub record Commit : Type 0 where
+pub record Open-commit : Type 0 where
   pub members : ℕ
   pub acknowledged : ℕ
 
@@ -40,7 +41,7 @@ pub record Commit : Type 0 where
 pub record Ledger : Type 0 where
   pub notes : List Note
   pub links : Links
-  pub commits : List Commit
+  pub commits : List Open-commit
   pub given : ℕ → List ℕ
   pub kept : ℕ → List ℕ
 
@@ -144,11 +145,11 @@ unfoldable pub all-undone : Ledger → Ledger
 all-undone l = cleared (λ i. true) undone l
 
 -- an access done: links by the last writers of its blocks, then a pending note
-unfoldable pub noted : Shape → Binding → ℕ → ℕ → ℕ → Access → Ledger → Ledger
+unfoldable pub noted : Shape → (ℕ → Binding) → ℕ → ℕ → ℕ → Access → Ledger → Ledger
 noted s how i a n access l =
     record {
       notes = record { board = i; cell = a; access = access; fate = pending } ∷ l .notes;
-      links = bind-tags link how (l .links) i (map (writer s (l .notes)) (touched s a n));
+      links = bind-blocks link how (writer s (l .notes)) (l .links) i (touched s a n);
       commits = l .commits;
       given = l .given;
       kept = l .kept;
@@ -166,7 +167,7 @@ started i l =
     }
 
 -- board i acknowledges the commit that has it as member, and its context is given
-unfoldable pub acknowledged-by : ℕ → Commit → Commit
+unfoldable pub acknowledged-by : ℕ → Open-commit → Open-commit
 acknowledged-by i c =
     record {
       members = c .members;
@@ -184,16 +185,16 @@ with-context i context l =
     }
 
 -- the members of the commit that has i as member, 0 for none; those where all members have acknowledged
-unfoldable pub members-of : ℕ → List Commit → ℕ
+unfoldable pub members-of : ℕ → List Open-commit → ℕ
 members-of i [] = 0
 members-of i (c ∷ cs) = cond (has (c .members) i) (c .members) (members-of i cs)
 
-unfoldable pub complete : ℕ → List Commit → ℕ
+unfoldable pub complete : ℕ → List Open-commit → ℕ
 complete i [] = 0
 complete i (c ∷ cs) = cond (has (c .members) i && eqb (c .acknowledged) (c .members)) (c .members) (complete i cs)
 
 -- the members whose commit is decided by board i's acknowledgement with allowance k, 0 for none
-unfoldable pub decided-by : Shape → ℕ → ℕ → List Commit → ℕ
+unfoldable pub decided-by : Shape → ℕ → ℕ → List Open-commit → ℕ
 decided-by s i k commits = cond (leb (s .context + 3) k) (complete i commits) 0
 
 -- whether board i's acknowledgement, done or cut, decides its commit
@@ -220,25 +221,25 @@ acknowledged s i context k l =
     let g = decided-by s i k (after .commits) in
     cond (eqb g 0) after (decided g after)
 
--- what a start or an acknowledgement, done or cut, does; nothing for the other calls
-unfoldable pub cut-effect : Shape → Call → Ledger → Ledger
-cut-effect s (Read i a n room) l = l
-cut-effect s (Write i a bytes k) l = l
-cut-effect s (Start i context k) l = acknowledged s i context k (started i l)
-cut-effect s (Acknowledge i context k) l = acknowledged s i context k l
-cut-effect s (Fault i k) l = l
-cut-effect s (Power-up k) l = l
+-- what a start or an acknowledgement, done or cut, does; nothing for the other requests
+unfoldable pub commit-effect : Shape → Request → ℕ → Ledger → Ledger
+commit-effect s (Read i a n room) k l = l
+commit-effect s (Write i a bytes) k l = l
+commit-effect s (Start i context) k l = acknowledged s i context k (started i l)
+commit-effect s (Acknowledge i context) k l = acknowledged s i context k l
+commit-effect s (Fault i) k l = l
+commit-effect s Power-up k l = l
 
-unfoldable pub effect : Shape → Call → Ledger → Ledger
-effect s (Read i a n room) l = noted s one-way i a n (Read-from (span (source (l .notes)) a n)) l
-effect s (Write i a bytes k) l = noted s two-way i a (length bytes) (Wrote bytes) l
-effect s (Start i context k) l = cut-effect s (Start i context k) l
-effect s (Acknowledge i context k) l = cut-effect s (Acknowledge i context k) l
-effect s (Fault i k) l = cleared (has (fault-group (l .links) i)) undone l
-effect s (Power-up k) l = all-undone l
+unfoldable pub effect : Shape → Request → ℕ → Ledger → Ledger
+effect s (Read i a n room) k l = noted s read-binding i a n (Read-from (span (source (l .notes)) a n)) l
+effect s (Write i a bytes) k l = let n = length bytes in noted s (write-binding s a n) i a n (Wrote bytes) l
+effect s (Start i context) k l = commit-effect s (Start i context) k l
+effect s (Acknowledge i context) k l = commit-effect s (Acknowledge i context) k l
+effect s (Fault i) k l = cleared (has (fault-group (l .links) i)) undone l
+effect s Power-up k l = all-undone l
 
--- the ledger after a call
-unfoldable pub update : Shape → Call → Verdict → Ledger → Ledger
-update s call refused l = l
-update s call done l = effect s call l
-update s call cut l = all-undone (cut-effect s call l)
+-- the ledger after a request with allowance k
+unfoldable pub update : Shape → Request → ℕ → Verdict → Ledger → Ledger
+update s request k refused l = l
+update s request k done l = effect s request k l
+update s request k cut l = all-undone (commit-effect s request k l)

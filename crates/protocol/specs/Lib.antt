@@ -1,8 +1,6 @@
-pub mod Lists
-pub mod Boards
 pub mod Image
 pub mod Volatile
+pub mod Accesses
 pub mod Calls
 pub mod Ledger
 pub mod Claim
-pub mod Rows

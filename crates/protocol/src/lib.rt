@@ -1,11 +1,11 @@
 // The types that the definitions in specs/ and the promises of the module share.
-pub mod checks;
-pub mod closures;
-pub mod sets;
-
+use boards::Closure;
+use boards::sets;
 ghost use mathlib.Core.Path.{_≡_};
 ghost use Prim.Native.Nat.{_<_};
-ghost use Rattle.protocol.specs.Volatile.{fresh, off, depend, clear, acknowledge, start};
+ghost use Rattle.boards.specs.Rows.{emptied};
+ghost use Rattle.protocol.specs.Volatile.{closed, fresh, off, engaged, commit-of, left-open};
+ghost use Rattle.protocol.specs.Volatile.{depend, clear, acknowledge, start};
 
 // P boards, blocks of S bytes, B blocks, K context bytes a board (document 01, "The image").
 pub struct Shape {
@@ -15,18 +15,31 @@ pub struct Shape {
     pub context: usize,
 }
 
-// An open commit: who started it, who takes part, who has acknowledged. All zero where none is open.
-pub struct Open {
+// A commit: who started it, who takes part, who has acknowledged. Open while it has members, else all zero.
+pub struct Commit {
     pub starter: u8,
     pub members: u16,
     pub acknowledged: u16,
+}
+
+impl Commit {
+    // No open commit: all zero.
+    fn closed() -> Commit
+        ensures { λ r. ⌜ r ≡ closed ⌝ }
+    {
+        Commit {
+            starter: 0,
+            members: 0,
+            acknowledged: 0,
+        }
+    }
 }
 
 // The volatile record (document 01, "The record"): bit j of row i says that board i depends on board j.
 pub struct Record {
     pub on: bool,
     pub rows: [u16; 16],
-    pub commit: Open,
+    pub commit: Commit,
 }
 
 impl Record {
@@ -34,11 +47,7 @@ impl Record {
     pub fn off() -> Record
         ensures { λ r. ⌜ r ≡ off ⌝ }
     {
-        let commit = Open {
-            starter: 0,
-            members: 0,
-            acknowledged: 0,
-        };
+        let commit = Commit::closed();
         Record {
             on: false,
             rows: [0u16; 16],
@@ -50,16 +59,27 @@ impl Record {
     pub fn fresh() -> Record
         ensures { λ r. ⌜ r ≡ fresh ⌝ }
     {
-        let commit = Open {
-            starter: 0,
-            members: 0,
-            acknowledged: 0,
-        };
+        let commit = Commit::closed();
         Record {
             on: true,
             rows: [0u16; 16],
             commit,
         }
+    }
+
+    // The members of the open commit, 0 if none is open.
+    pub fn engaged(self) -> u16
+        ensures { λ r. ⌜ r ≡ engaged self ⌝ }
+    {
+        self.commit.members
+    }
+
+    // The commit that board i acknowledges, if i is a member: one at most is open, so i does not matter.
+    pub fn commit_of(self, i: u8) -> Commit
+        ensures { λ r. ⌜ r ≡ commit-of self i ⌝ }
+    {
+        let commit = self.commit;
+        commit
     }
 
     // Board i depends on board j.
@@ -79,28 +99,27 @@ impl Record {
         }
     }
 
-    // The rows and columns of g are emptied; an open commit with a member in g is dropped.
-    pub fn clear(self, g: u16) -> Record
-        ensures { λ r. ⌜ r ≡ clear self g ⌝ }
+    // The commit that is left: none if the open one has a member in g, and so is dropped.
+    fn left_open(self, g: u16) -> Commit
+        ensures { λ r. ⌜ r ≡ left-open self g ⌝ }
     {
-        let rows = self.rows;
         let commit = self.commit;
-        let left = closures::emptied(rows, g);
         if sets::meet(commit.members, g) {
-            let none = Open {
-                starter: 0,
-                members: 0,
-                acknowledged: 0,
-            };
-            return Record {
-                on: self.on,
-                rows: left,
-                commit: none,
-            };
+            return Commit::closed();
         }
+        commit
+    }
+
+    // The rows become those that the group brings, its own emptied; an open commit with a member in it is dropped.
+    pub fn clear(self, group: Closure) -> Record
+        requires { ⌜ group .rows ≡ emptied (self .rows) (group .members) ⌝ }
+        ensures { λ r. ⌜ r ≡ clear self (group .members) ⌝ }
+    {
+        let rows = group.rows;
+        let commit = self.left_open(group.members);
         Record {
             on: self.on,
-            rows: left,
+            rows,
             commit,
         }
     }
@@ -112,7 +131,7 @@ impl Record {
     {
         let rows = self.rows;
         let own = sets::with_board(0, i);
-        let commit = Open {
+        let commit = Commit {
             starter: i,
             members: g,
             acknowledged: own,
@@ -131,7 +150,7 @@ impl Record {
     {
         let rows = self.rows;
         let old = self.commit;
-        let commit = Open {
+        let commit = Commit {
             starter: old.starter,
             members: old.members,
             acknowledged: sets::with_board(old.acknowledged, i),
@@ -157,10 +176,4 @@ pub struct Answer {
 pub struct Reply {
     pub answer: Answer,
     pub next: Record,
-}
-
-// What comparing two images answers: 0 or the number of the refusal, and whether they are the same.
-pub struct Compared {
-    pub status: u8,
-    pub same: bool,
 }

@@ -9,19 +9,22 @@ use lib.ListN.{length, getD}
 use native.Mathlib.Omega.{arith}
 use native.Mathlib.Numerals.{add-one}
 use borrow.Author.Tests.{ltb-false, ne-eqb, lt-ltb, le-ltb}
-use Rattle.protocol.specs.Lists.{for, any, every}
-use Rattle.protocol.specs.Boards.{has}
-use Rattle.protocol.specs.Image.{Area, Decision, Group, Tags, Current, Recovery, Memory, Put, raw, base, size, view, after, total, allowed}
-use Rattle.protocol.specs.Calls.{tagged, tagged-in, stored-group, bad-tags, block-copied, blocks-copied, completing, completed-first, recovering}
+use Rattle.boards.specs.Lists.{for, any, every}
+use Rattle.boards.specs.Boards.{has}
+use Rattle.protocol.specs.Image.{Area, Decision, Group, Tags, Current, Recovery, Memory, Put, raw, base, size, view}
+use Rattle.protocol.specs.Image.{after, total, allowed}
+use Rattle.protocol.specs.Calls.{stored-group, bad-tags, block-copied, blocks-copied, completing, completed-first}
+use Rattle.protocol.specs.Calls.{recovering}
+use Rattle.boards.specs.Boards.{tagged, tagged-in}
 use Rattle.protocol.specs.declared.Shape.{Shape}
-use Rattle.protocol.proofs.Basics.{decide, any-none, some-any, false-or, every-at}
+use Rattle.boards.proofs.Basics.{decide, any-none, some-any, false-or, every-at}
 use Rattle.protocol.proofs.Bridge.{view-at, view-made-fun}
 use Rattle.protocol.proofs.Safety.{completed}
 use Rattle.store.specs.Budget.{Makes, WellBudget}
 use Rattle.store.specs.declared.Budget.{Budget}
 use Rattle.store.proofs.Laws.{makes-instead, makes-all, makes-well, makes-none}
-use Rattle.blocks.specs.Puts.{Puts}
-use Rattle.blocks.proofs.Blocks.{tag-read}
+use Rattle.store.specs.Puts.{Puts}
+use Rattle.layout.proofs.Laws.{tag-read}
 use Rattle.blocks.proofs.Composite.{recovers, first-valid}
 
 -- ---- what is read

@@ -8,11 +8,14 @@ use lib.Dec.{eqb}
 use lib.ListN.{take}
 use native.Mathlib.Omega.{arith}
 use borrow.Author.Tests.{ne-eqb}
-use Rattle.protocol.specs.Lists.{for, anyOf}
+use Rattle.boards.specs.Lists.{for, anyOf}
 use Rattle.protocol.specs.Image.{Decision, Current, Recovery, Memory, Put, put, rank, size, raw, after}
-use Rattle.protocol.specs.Calls.{decides, tagged, tagged-in, stored-group, blocks-copied, context-saved, completing, completed-first, recovering}
+use Rattle.protocol.specs.Calls.{decides, stored-group, blocks-copied, context-saved, completing, completed-first}
+use Rattle.protocol.specs.Calls.{recovering}
+use Rattle.boards.specs.Boards.{tagged, tagged-in}
 use Rattle.protocol.specs.declared.Shape.{Shape}
-use Rattle.protocol.proofs.Basics.{All, none, also, all-append, all-cond, all-map, all-take, take-map, false-or, false-and}
+use Rattle.boards.proofs.Basics.{All, none, also, all-append, all-cond, all-map, all-take, take-map, false-or}
+use Rattle.boards.proofs.Basics.{false-and}
 use Rattle.protocol.proofs.Bridge.{Valid, decides-raw}
 use Rattle.protocol.proofs.Copies.{Inside, blocks-inside, contexts-inside, current, recovery}
 

@@ -1,27 +1,27 @@
 // The calls that roll back: a board's fault, and power-up, which first completes a decided commit.
-use answers::finish;
-use answers::refusal;
 use blocks::complete;
 use blocks::copy_blocks;
-use entry::common_refusal;
+use boards::sets::beyond;
+use entry::entry_refusal;
+use groups::fault_closure;
 use layout::in_order;
 use layout::shape_of;
 use protocol::Record;
 use protocol::Reply;
 use protocol::Shape;
-use protocol::checks::beyond;
-use protocol::closures::fault_closure;
 use store::Budget;
+use store::answers::finish;
+use store::answers::refusal;
 ghost use mathlib.Core.Path.{_≡_};
 ghost use mathlib.Core.Bool.{true};
 ghost use Prim.Native.Nat.{ℕ, _+_, _*_, _≤_};
 ghost use lib.ListN.{length, getD};
 ghost use Rattle.protocol.specs.Image.{allowed, total, view, shape-of};
-ghost use Rattle.protocol.specs.Calls.{Fault, Power-up, first, refusals, bad-tags, bad-decision, completed-first};
+ghost use Rattle.protocol.specs.Calls.{Fault, Power-up, first, power-tests, bad-tags, bad-decision, completed-first};
 ghost use Rattle.protocol.specs.declared.Record.{Record as State};
 ghost use Rattle.store.specs.Budget.{WellBudget};
-ghost use Rattle.blocks.specs.Puts.{Puts};
-ghost use Rattle.answers.specs.Promise.{Performed};
+ghost use Rattle.store.specs.Puts.{Puts};
+ghost use Rattle.store.specs.Promise.{Performed};
 
 // Whether a tag is above P.
 fn bad_tags(image: &[u8], s: Shape) -> bool
@@ -63,8 +63,8 @@ fn bad_decision(image: &[u8], s: Shape) -> bool
 
 // 11, or 0 where power-up is taken.
 fn power_refusal(image: &[u8]) -> u8
-    ensures { λ r. ⌜ ((state : State) (k : ℕ) → r ≡ first (refusals (now (image .entry))
-        (shape-of (now (image .entry))) (view (shape-of (now (image .entry))) (now (image .entry))) state (Power-up k))) ⌝ }
+    ensures { λ r. ⌜ r ≡ first (power-tests (now (image .entry)) (shape-of (now (image .entry)))
+        (view (shape-of (now (image .entry))) (now (image .entry)))) ⌝ }
 {
     if !in_order(image, 1) {
         return 11;
@@ -93,7 +93,7 @@ fn complete_first(image: &mut [u8], s: Shape, k: Budget) -> Budget
 
 // A power-up takes no record: whatever the record was, the answer is the same.
 pub fn power_up(image: &mut [u8], k: usize) -> Reply
-    ensures { λ r. ⌜ ((state : State) → Performed (Power-up k) (now (image .entry)) state r (now (image .exit))) ⌝ }
+    ensures { λ r. ⌜ ((state : State) → Performed Power-up k (now (image .entry)) state r (now (image .exit))) ⌝ }
 {
     let n = power_refusal(image);
     if n != 0 {
@@ -113,21 +113,21 @@ pub fn power_up(image: &mut [u8], k: usize) -> Reply
 
 // A fault of a board rolls back all who depend on it.
 pub fn fault(image: &mut [u8], state: Record, board: usize, k: usize) -> Reply
-    ensures { λ r. ⌜ Performed (Fault board k) (now (image .entry)) state r (now (image .exit)) ⌝ }
+    ensures { λ r. ⌜ Performed (Fault board) k (now (image .entry)) state r (now (image .exit)) ⌝ }
 {
-    let n = common_refusal(image, state, board);
+    let n = entry_refusal(image, state, board);
     if n != 0 {
         return refusal(n, state);
     }
     let s = shape_of(image);
     let rows = state.rows;
-    let closure = fault_closure(rows, board as u8);
-    let g = closure.members;
+    let group = fault_closure(rows, board as u8);
+    let g = group.members;
     let whole = Budget {
         left: k,
         cut: false,
     };
     let left = copy_blocks(image, s, g, false, whole);
-    let next = state.clear(g);
+    let next = state.clear(group);
     finish(k, left, false, g, next)
 }

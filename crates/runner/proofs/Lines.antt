@@ -8,7 +8,7 @@ use native.Mathlib.Omega.{arith}
 use lib.Dec.{eqb, leb, ltb}
 use borrow.Author.Tests.{lt-leb}
 use lib.ListN.{length, take, drop, getD, length-append, length-take}
-use Rattle.protocol.proofs.Basics.{false-and, if-true, if-false}
+use Rattle.boards.proofs.Basics.{false-and, if-true, if-false}
 use Rattle.text.specs.Fields.{line-feed, until, past}
 use Rattle.runner.specs.Pieces.{Unbroken}
 use Rattle.text.specs.Events.{Event, taken, by-letter, well-parted, Unreadable}

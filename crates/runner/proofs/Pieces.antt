@@ -18,8 +18,8 @@ use Rattle.text.specs.Whole.{Run as Whole, lines, most-lines, line-text, next-r
 use Rattle.printing.specs.Append.{Appends}
 use Rattle.printing.proofs.Laws.{take-x, appends-length}
 use Rattle.fields.proofs.Laws.{take-until, drop-past}
-use Rattle.player.specs.Turned.{player-of, Turns}
-use Rattle.player.specs.declared.Turned.{Turned}
+use Rattle.turns.specs.Turned.{player-of, Turns}
+use Rattle.turns.specs.declared.Turned.{Turned}
 use Rattle.runner.specs.Pieces.{run-of, Unbroken, Steps, Progresses, Stands-for}
 use Rattle.runner.specs.declared.Run.{Run}
 use Rattle.runner.specs.declared.Stepped.{Stepped}

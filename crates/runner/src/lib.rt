@@ -2,9 +2,9 @@
 // the last line.
 use events::take_apart;
 use fields::find;
-use player::Session;
 use player::play;
 use protocol::Record;
+use turns::Session;
 ghost use mathlib.Core.Path.{_≡_};
 ghost use mathlib.Core.List.{[]};
 ghost use Prim.Native.Nat.{_+_, _-_, _≤_, _<_};

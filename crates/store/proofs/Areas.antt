@@ -5,11 +5,11 @@ use mathlib.Core.List.{List, [], _∷_, map}
 use lib.ListN.{length, getD, drop}
 use lib.Seq.{getD-drop}
 use native.Mathlib.Omega.{arith}
-use Rattle.protocol.specs.Lists.{span}
+use Rattle.boards.specs.Lists.{span}
 use Rattle.protocol.specs.Image.{Area, base, size, view, Store, raw}
 use Rattle.protocol.specs.Calls.{placing, copying}
 use Rattle.protocol.specs.declared.Shape.{Shape}
-use Rattle.protocol.proofs.Basics.{length-span, getD-span}
+use Rattle.boards.proofs.Basics.{length-span, getD-span}
 use Rattle.protocol.proofs.Bridge.{view-at}
 use Rattle.store.specs.Budget.{one}
 use Rattle.store.specs.Runs.{put-stores, copy-stores, shifted}

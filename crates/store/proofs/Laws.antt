@@ -11,7 +11,7 @@ use native.Mathlib.Omega.{arith}
 use native.Mathlib.Nat.{sub-zero}
 use borrow.Author.Tests.{ltb-true, ltb-false, lt-ltb, le-ltb}
 use Rattle.protocol.specs.Image.{Store, made}
-use Rattle.protocol.proofs.Basics.{decide, clash, or-false, or-true, true-or, or-right, take-append, test-ext}
+use Rattle.boards.proofs.Basics.{decide, clash, or-false, or-true, true-or, or-right, take-append, test-ext}
 use Rattle.protocol.proofs.Bridge.{length-made}
 use Rattle.store.specs.declared.Budget.{Budget}
 use Rattle.store.specs.Budget.{spent, Makes, start, WellBudget}

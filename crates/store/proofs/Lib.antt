@@ -1,3 +1,5 @@
 pub mod Laws
 pub mod Runs
 pub mod Areas
+pub mod Chains
+pub mod Ends

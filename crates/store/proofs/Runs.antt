@@ -8,9 +8,9 @@ use lib.Seq.{take-all, getD-set-other, drop-set-add, take-set-le}
 use native.Mathlib.Omega.{arith}
 use native.Mathlib.Nat.{zero-add}
 use native.Mathlib.Numerals.{add-one}
-use Rattle.protocol.specs.Lists.{span}
+use Rattle.boards.specs.Lists.{span}
 use Rattle.protocol.specs.Image.{Store, made}
-use Rattle.protocol.proofs.Basics.{All, none, also, all-take, take-map}
+use Rattle.boards.proofs.Basics.{All, none, also, all-take, take-map}
 use Rattle.store.specs.declared.Budget.{Budget}
 use Rattle.store.specs.Budget.{Makes}
 use Rattle.store.specs.Runs.{shifted}

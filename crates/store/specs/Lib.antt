@@ -1,2 +1,4 @@
 pub mod Budget
 pub mod Runs
+pub mod Puts
+pub mod Promise

@@ -2,7 +2,7 @@
 use Prim.Native.Nat.{ℕ, _+_}
 use mathlib.Core.List.{List, map}
 use lib.ListN.{length, getD}
-use Rattle.protocol.specs.Lists.{span}
+use Rattle.boards.specs.Lists.{span}
 use Rattle.protocol.specs.Image.{Store}
 use Rattle.store.specs.Budget.{one}
 

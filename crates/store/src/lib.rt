@@ -1,4 +1,6 @@
 // The one function that stores a byte of the image, and the leaves that store runs of bytes with it.
+pub mod answers;
+
 ghost use mathlib.Core.List.{[], _∷_};
 ghost use Prim.Native.Nat.{_+_, _≤_, _<_};
 ghost use lib.ListN.{length, drop};

@@ -4,8 +4,8 @@ use mathlib.Core.Bool.{Bool, _&&_, cond}
 use mathlib.Core.List.{List, [], _∷_}
 use lib.Dec.{eqb, leb}
 use lib.ListN.{length, getD, take}
-use Rattle.protocol.specs.Lists.{any}
-use Rattle.protocol.specs.Calls.{Call, Read, Write, Start, Acknowledge, Fault, Power-up}
+use Rattle.boards.specs.Lists.{any}
+use Rattle.protocol.specs.Calls.{Request, Read, Write, Start, Acknowledge, Fault, Power-up}
 use Rattle.protocol.specs.declared.Shape.{Shape}
 use Rattle.text.specs.Fields.{codes, field, commas, number-of, pairs, decoded}
 use Rattle.text.specs.declared.Number.{Number}
@@ -13,11 +13,10 @@ use Rattle.text.specs.declared.Number.the-variants.{Value, Invalid}
 use Rattle.text.specs.declared.Parsed.{Parsed}
 use Rattle.text.specs.declared.Parsed.the-variants as parsed
 
--- What a line asks for: a format, a call (whose budget the player sets), the allowance of the next line; or it
--- can't be taken apart.
+-- What a line asks for: a format, a request, the allowance of the next line; or it can't be taken apart.
 pub data Event : Type 0 where
   Format : Shape → Event
-  Make : Call → Event
+  Make : Request → Event
   Allow : ℕ → Event
   Unreadable : Event
 
@@ -53,7 +52,7 @@ bytes-at i s f = with-bytes (field i s) f
 abbrev pub room : ℕ
 room = 64
 
--- the fields that follow each letter; the budget 0 stands for the one that the player sets
+-- the fields that follow each letter
 unfoldable pub format-of : List ℕ → Event
 format-of s =
     number-at 1 s (λ p. number-at 2 s (λ size. number-at 3 s (λ b. number-at 4 s (λ k.
@@ -63,16 +62,16 @@ unfoldable pub read-of : List ℕ → Event
 read-of s = number-at 1 s (λ i. number-at 2 s (λ a. number-at 3 s (λ n. Make (Read i a n room))))
 
 unfoldable pub write-of : List ℕ → Event
-write-of s = number-at 1 s (λ i. number-at 2 s (λ a. bytes-at 3 s (λ bytes. Make (Write i a bytes 0))))
+write-of s = number-at 1 s (λ i. number-at 2 s (λ a. bytes-at 3 s (λ bytes. Make (Write i a bytes))))
 
 unfoldable pub start-of : List ℕ → Event
-start-of s = number-at 1 s (λ i. bytes-at 2 s (λ bytes. Make (Start i bytes 0)))
+start-of s = number-at 1 s (λ i. bytes-at 2 s (λ bytes. Make (Start i bytes)))
 
 unfoldable pub acknowledge-of : List ℕ → Event
-acknowledge-of s = number-at 1 s (λ i. bytes-at 2 s (λ bytes. Make (Acknowledge i bytes 0)))
+acknowledge-of s = number-at 1 s (λ i. bytes-at 2 s (λ bytes. Make (Acknowledge i bytes)))
 
 unfoldable pub fault-of : List ℕ → Event
-fault-of s = number-at 1 s (λ i. Make (Fault i 0))
+fault-of s = number-at 1 s (λ i. Make (Fault i))
 
 unfoldable pub allow-of : List ℕ → Event
 allow-of s = number-at 1 s (λ k. Allow k)
@@ -86,7 +85,7 @@ by-letter c s =
     (cond (eqb c 67) (start-of s)
     (cond (eqb c 65) (acknowledge-of s)
     (cond (eqb c 88) (fault-of s)
-    (cond (eqb c 85) (Make (Power-up 0)) (allow-of s)))))))
+    (cond (eqb c 85) (Make Power-up) (allow-of s)))))))
 
 unfoldable pub taken : List ℕ → Event
 taken s = let event = by-letter (getD s 0 0) s in cond (well-parted s) event Unreadable
@@ -95,11 +94,11 @@ taken s = let event = by-letter (getD s 0 0) s in cond (well-parted s) event Unr
 unfoldable pub meant : Parsed → List ℕ → Event
 meant (parsed.Format s) b = Format s
 meant (parsed.Read i a n) b = Make (Read i a n room)
-meant (parsed.Write i a n) b = Make (Write i a (take n b) 0)
-meant (parsed.Start i n) b = Make (Start i (take n b) 0)
-meant (parsed.Acknowledge i n) b = Make (Acknowledge i (take n b) 0)
-meant (parsed.Fault i) b = Make (Fault i 0)
-meant parsed.PowerUp b = Make (Power-up 0)
+meant (parsed.Write i a n) b = Make (Write i a (take n b))
+meant (parsed.Start i n) b = Make (Start i (take n b))
+meant (parsed.Acknowledge i n) b = Make (Acknowledge i (take n b))
+meant (parsed.Fault i) b = Make (Fault i)
+meant parsed.PowerUp b = Make Power-up
 meant (parsed.Allow k) b = Allow k
 meant parsed.Unreadable b = Unreadable
 

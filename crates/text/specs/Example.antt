@@ -3,15 +3,28 @@ use Prim.Native.Nat.{ℕ}
 use Prim.Native.String.{String}
 use mathlib.Core.Path.{_≡_, refl}
 use mathlib.Core.List.{List, [], _∷_, _++_}
-use Rattle.protocol.specs.Lists.{for, span, every, any, anyOf}
-use Rattle.protocol.specs.Boards.{has, mask, link, unlink, bind-boards, bind-tag, bind-tags, pass, passes, commit-group, fault-group}
-use Rattle.protocol.specs.Image.{allowed, size, base, total, mark, exponent, exponent-from, header, shape-of, in-order, view, made, raw, rank, change, after}
-use Rattle.protocol.specs.Volatile.{closed, fresh, off, depends, rows-of, depend, clear, opened, acknowledge, beyond, bad-row, bad-open, bad-closed, bad-commit, bad-record}
-use Rattle.protocol.specs.Calls.{budget, tagged-in, tagged, touched, first, bad-range, stored-group, bad-tags, bad-decision, common, refusals, placing, tagging, copying, block-copied, blocks-copied, context-saved, completing, deciding, completed-first, recovering, acknowledging, plan, refused, decides, executed, record-refused, perform, format-refusals, formatting, format}
-use Rattle.text.specs.Fields.{line-feed, codes, until, past, commas, field, number-from, number-of, digit, pairs, decoded}
-use Rattle.text.specs.Events.{letters, due, listed, well-parted, with-number, with-bytes, format-of, read-of, write-of, start-of, acknowledge-of, fault-of, allow-of, by-letter, taken}
-use Rattle.text.specs.Rows.{digit-at, decimal, hexadecimal, byte-text, bytes-text, group-text, flag-text, row-text, rows-text}
-use Rattle.text.specs.Turns.{ended, letter-of, with-budget, play}
+use Rattle.boards.specs.Lists.{for, span, every, any, anyOf}
+use Rattle.boards.specs.Boards.{has, mask, beyond, tagged-in, tagged, link, unlink, pass, passes, commit-group}
+use Rattle.boards.specs.Boards.{fault-group}
+use Rattle.boards.specs.Rows.{links-of, rows-of, emptied}
+use Rattle.protocol.specs.Image.{allowed, size, base, total, mark, exponent, exponent-from, header, shape-of, in-order}
+use Rattle.protocol.specs.Image.{view, made, raw, rank, change, after}
+use Rattle.protocol.specs.Volatile.{closed, fresh, off, depends, engaged, commit-of, left-open, depend, clear, opened}
+use Rattle.protocol.specs.Volatile.{acknowledge, bad-row, bad-rows, bad-open, bad-closed, bad-commit, bad-record}
+use Rattle.protocol.specs.Accesses.{touched, read-binding, write-binding, bind-boards, bind-tag, bind-blocks}
+use Rattle.protocol.specs.Calls.{first, bad-range, stored-group, bad-tags, bad-decision, entry-tests, read-tests}
+use Rattle.protocol.specs.Calls.{write-tests, start-tests, acknowledge-tests, power-tests, refusals, placing, tagging}
+use Rattle.protocol.specs.Calls.{copying, block-copied, blocks-copied, context-saved, completing, deciding}
+use Rattle.protocol.specs.Calls.{completed-first, recovering, acknowledging, plan, refused, decides, executed}
+use Rattle.protocol.specs.Calls.{record-refused, perform, format-tests, formatting, format}
+use Rattle.text.specs.Fields.{line-feed, codes, until, past, commas, field, number-from, number-of, digit, pairs}
+use Rattle.text.specs.Fields.{decoded}
+use Rattle.text.specs.Events.{letters, due, listed, well-parted, with-number, with-bytes, format-of, read-of}
+use Rattle.text.specs.Events.{write-of}
+use Rattle.text.specs.Events.{start-of, acknowledge-of, fault-of, allow-of, by-letter, taken}
+use Rattle.text.specs.Rows.{digit-at, decimal, hexadecimal, byte-text, bytes-text, group-text, flag-text}
+use Rattle.text.specs.Rows.{row-text, rows-text}
+use Rattle.text.specs.Turns.{ended, letter-of, play}
 use Rattle.text.specs.Whole.{grown, lines, line-text, next-run, output-from, start, output}
 
 -- lines, each ended by a line feed
@@ -49,5 +62,16 @@ answers =
     ∷ []
 
 pub eleven-answers : output (text input) ≡ text answers
-unfolding text input answers codes until past commas field number-from number-of digit pairs decoded letters due listed well-parted with-number with-bytes format-of read-of write-of start-of acknowledge-of fault-of allow-of by-letter taken digit-at decimal hexadecimal byte-text bytes-text group-text flag-text row-text rows-text ended letter-of with-budget play grown lines line-text next-run output-from start output for span every any anyOf has mask link unlink bind-boards bind-tag bind-tags pass passes commit-group fault-group allowed size base total mark exponent exponent-from header shape-of in-order view made raw rank change after closed fresh off depends rows-of depend clear opened acknowledge beyond bad-row bad-open bad-closed bad-commit bad-record budget tagged-in tagged touched first bad-range stored-group bad-tags bad-decision common refusals placing tagging copying block-copied blocks-copied context-saved completing deciding completed-first recovering acknowledging plan refused decides executed record-refused perform format-refusals formatting format
+unfolding text input answers for span every any anyOf has mask beyond tagged-in tagged link unlink pass passes
+    commit-group fault-group links-of rows-of emptied allowed size base total mark exponent exponent-from header
+    shape-of in-order view made raw rank change after closed fresh off depends engaged commit-of left-open
+    depend clear opened acknowledge bad-row bad-rows bad-open bad-closed bad-commit bad-record touched
+    read-binding write-binding bind-boards bind-tag bind-blocks first bad-range stored-group bad-tags
+    bad-decision entry-tests read-tests write-tests start-tests acknowledge-tests power-tests refusals placing
+    tagging copying block-copied blocks-copied context-saved completing deciding completed-first recovering
+    acknowledging plan refused decides executed record-refused perform format-tests formatting format codes
+    until past commas field number-from number-of digit pairs decoded letters due listed well-parted with-number
+    with-bytes format-of read-of write-of start-of acknowledge-of fault-of allow-of by-letter taken digit-at
+    decimal hexadecimal byte-text bytes-text group-text flag-text row-text rows-text ended letter-of play grown
+    lines line-text next-run output-from start output
 eleven-answers = refl

@@ -7,7 +7,7 @@ use lib.Dec.{eqb}
 use lib.ListN.{replicate}
 use Rattle.protocol.specs.Image.{allowed, total}
 use Rattle.protocol.specs.Volatile.{off}
-use Rattle.protocol.specs.Calls.{Call, Read, Write, Start, Acknowledge, Fault, Power-up, Outcome, perform, format}
+use Rattle.protocol.specs.Calls.{Request, Read, Write, Start, Acknowledge, Fault, Power-up, Outcome, perform, format}
 use Rattle.protocol.specs.declared.Shape.{Shape}
 use Rattle.protocol.specs.declared.Record.{Record}
 use Rattle.protocol.specs.declared.Answer.{Answer}
@@ -43,7 +43,7 @@ moved o = record { image = o .image; state = o .reply .next; k = uncut }
 -- after a cut the program powers up, uncut, and prints that too, as U, code 85
 unfoldable pub ended : ℕ → Outcome → Turn
 ended letter o =
-    let u = perform (o .image) (o .reply .next) (Power-up uncut) in
+    let u = perform (o .image) (o .reply .next) Power-up uncut in
     cond (eqb (o .reply .answer .status) 9)
     (record { rows = row letter o ∷ row 85 u ∷ []; next = moved u })
     (record { rows = row letter o ∷ []; next = moved o })
@@ -55,33 +55,25 @@ told letter status next =
     record { rows = record { letter = letter; answer = answer; bytes = [] } ∷ []; next = next }
 
 -- the codes of R, W, C, A, X, U
-unfoldable pub letter-of : Call → ℕ
+unfoldable pub letter-of : Request → ℕ
 letter-of (Read board cell n room) = 82
-letter-of (Write board cell bytes k) = 87
-letter-of (Start board context k) = 67
-letter-of (Acknowledge board context k) = 65
-letter-of (Fault board k) = 88
-letter-of (Power-up k) = 85
-
-unfoldable pub with-budget : ℕ → Call → Call
-with-budget k (Read board cell n room) = Read board cell n room
-with-budget k (Write board cell bytes _) = Write board cell bytes k
-with-budget k (Start board context _) = Start board context k
-with-budget k (Acknowledge board context _) = Acknowledge board context k
-with-budget k (Fault board _) = Fault board k
-with-budget k (Power-up _) = Power-up k
+letter-of (Write board cell bytes) = 87
+letter-of (Start board context) = 67
+letter-of (Acknowledge board context) = 65
+letter-of (Fault board) = 88
+letter-of Power-up = 85
 
 -- An F, code 70, within the limits first makes the image that length, all zero. Z has the code 90, ? 63.
 unfoldable pub play : Player → Event → Turn
 play p (Format s) =
     let image = cond (allowed s) (replicate (total s) 0) (p .image) in
     ended 70 (format s image (p .state) (p .k))
-play p (Make call) = ended (letter-of call) (perform (p .image) (p .state) (with-budget (p .k) call))
+play p (Make request) = ended (letter-of request) (perform (p .image) (p .state) request (p .k))
 play p (Allow k) = told 90 0 (record { image = p .image; state = p .state; k = k })
 play p Unreadable = told 63 6 (record { image = p .image; state = p .state; k = uncut })
 
 -- With the allowance `uncut` no call is cut: no line without a Z before it, nor the power-up after a cut.
 pub record Nothing-cut : Type 0 where
-  pub calls : (image : List ℕ) (r : Record) (call : Call) →
-      perform image r (with-budget uncut call) .reply .answer .status ≢ 9
+  pub calls : (image : List ℕ) (r : Record) (request : Request)
+      → perform image r request uncut .reply .answer .status ≢ 9
   pub formats : (s : Shape) (image : List ℕ) (r : Record) → format s image r uncut .reply .answer .status ≢ 9

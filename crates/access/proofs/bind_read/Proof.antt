@@ -2,7 +2,7 @@
 use mathlib.Core.Path.{_∙_}
 use borrow.Author.Needs.{needs}
 use native.Mathlib.Omega.{arith}
-use Rattle.protocol.specs.Boards.{one-way, bind-boards}
+use Rattle.protocol.specs.Accesses.{one-way, bind-boards}
 use Rattle.access.proofs.Laws.{bind-none, bind-own, bind-other}
 use Rattle.access.proofs.bind_read.Statement.{statement}
 use Rattle.access.proofs.bind_read.Tie as tie
@@ -13,7 +13,7 @@ returns c =
     bind-none one-way (args .state) (args .i) (args .tag) (c .if1 .taken)
 
 sub-j : tie.Need-sub-j
-sub-j c = search needs
+sub-j c = omega arith
 
 returns-2 : tie.Need-returns-2
 returns-2 c =

@@ -3,7 +3,7 @@ use Prim.Native.Nat.{_-_}
 use mathlib.Core.Path.{_∙_, ap}
 use borrow.Author.Needs.{needs}
 use native.Mathlib.Omega.{arith}
-use Rattle.protocol.specs.Boards.{two-way, bind-boards}
+use Rattle.protocol.specs.Accesses.{two-way, bind-boards}
 use Rattle.protocol.specs.Volatile.{depend}
 use Rattle.access.proofs.Laws.{bind-none, bind-own, bind-other}
 use Rattle.access.proofs.bind_write.Statement.{statement}
@@ -15,7 +15,7 @@ returns c =
     bind-none two-way (args .state) (args .i) (args .tag) (c .if1 .taken)
 
 sub-j : tie.Need-sub-j
-sub-j c = search needs
+sub-j c = omega arith
 
 returns-2 : tie.Need-returns-2
 returns-2 c =

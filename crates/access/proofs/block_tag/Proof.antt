@@ -3,7 +3,7 @@ use mathlib.Core.Path.{sym}
 use native.Mathlib.Omega.{arith}
 use Rattle.protocol.specs.Image.{total}
 use Rattle.layout.proofs.Laws.{bounded}
-use Rattle.blocks.proofs.Blocks.{tag-read}
+use Rattle.layout.proofs.Laws.{tag-read}
 use Rattle.access.proofs.Tests.{block-of}
 use Rattle.access.proofs.block_tag.Statement.{statement}
 use Rattle.access.proofs.block_tag.Tie as tie

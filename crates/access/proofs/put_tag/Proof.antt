@@ -1,4 +1,5 @@
 -- `put_tag` meets its contract: nothing for the writer's own block, else one store.
+use mathlib.Core.Path.{refl}
 use borrow.Author.Needs.{needs}
 use native.Mathlib.Omega.{arith}
 use Rattle.protocol.specs.Image.{total}
@@ -12,10 +13,10 @@ block-tag-requires : tie.Need-block-tag-requires
 block-tag-requires c κs = search needs
 
 add-own : tie.Need-add-own
-add-own c = search needs
+add-own c = omega arith
 
 same-length : tie.Need-same-length
-same-length c = search needs
+same-length c = refl
 
 returns : tie.Need-returns
 returns c =

@@ -1,13 +1,14 @@
 -- `read_tests` meets its contract: the four tests in their order.
-use mathlib.Core.Path.{sym, _∙_}
+use mathlib.Core.Path.{sym, _∙_, ap}
 use mathlib.Core.List.{[]}
 use borrow.Author.Needs.{needs}
 use native.Mathlib.Omega.{arith}
 use denote.Ref.{now}
+use Rattle.boards.specs.Boards.{has}
 use Rattle.protocol.specs.Image.{view}
 use Rattle.protocol.specs.Calls.{first}
 use Rattle.layout.proofs.Laws.{bounded}
-use Rattle.answers.proofs.Ends.{first-held, first-passed}
+use Rattle.store.proofs.Ends.{first-held, first-passed}
 use Rattle.protocol.proofs.Plans.{ranged}
 use Rattle.access.proofs.Tests.{read-two, read-five, read-eleven, read-last}
 use Rattle.access.proofs.read_tests.Statement.{statement}
@@ -37,7 +38,7 @@ block-tag-requires c κs =
     (start .pre .0, start .pre .1, omega arith)
 
 cast-if3 : tie.Need-cast-if3
-cast-if3 c = search needs
+cast-if3 c = omega arith
 
 returns-3 : tie.Need-returns-3
 returns-3 c =
@@ -49,19 +50,24 @@ returns-3 c =
     (sym (range .if1 .left) ∙ range .before .bad-range .ensures) (tag .before .if2 .left)
     (omega (arith, tag .block-tag .ensures))
 
+engaged-requires : tie.Need-engaged-requires
+engaged-requires c κs = tt
+
 cast-has : tie.Need-cast-has
-cast-has c = omega (arith, bounded (c .before .before .before .before .before .before .before .pre .0))
+cast-has c = omega (arith, bounded (c .before .before .before .before .before .before .before .before .pre .0))
 
 has-requires : tie.Need-has-requires
-has-requires c κs = omega (arith, bounded (c .before .before .before .before .before .before .before .pre .0))
+has-requires c κs = omega (arith, bounded (c .before .before .before .before .before .before .before .before .pre .0))
 
 returns-4 : tie.Need-returns-4
 returns-4 c =
-    let third = c .before .before in
+    let own = c .before in
+    let third = own .before .before in
     let tag = third .before .before in
     let range = tag .before .before in
     let args = range .before .before .before .args in
-    sym (first-held 13 _ (sym (c .before .has .ensures) ∙ c .if4 .taken))
+    let member = own .has .ensures ∙ ap (λ g. has g (args .board)) (own .before .engaged .ensures) in
+    sym (first-held 13 _ (sym member ∙ c .if4 .taken))
     ∙ read-last (args .s) (view (args .s) (now (args .image))) (args .state) (args .board) (args .cell) (args .n) (args .room)
     (sym (range .if1 .left) ∙ range .before .bad-range .ensures) (tag .before .if2 .left)
     (omega (arith, tag .block-tag .ensures))
@@ -69,11 +75,13 @@ returns-4 c =
 returns-5 : tie.Need-returns-5
 unfolding first
 returns-5 c =
-    let third = c .before .before in
+    let own = c .before in
+    let third = own .before .before in
     let tag = third .before .before in
     let range = tag .before .before in
     let args = range .before .before .before .args in
-    sym (first-passed 13 [] (sym (c .before .has .ensures) ∙ c .if4 .left))
+    let member = own .has .ensures ∙ ap (λ g. has g (args .board)) (own .before .engaged .ensures) in
+    sym (first-passed 13 [] (sym member ∙ c .if4 .left))
     ∙ read-last (args .s) (view (args .s) (now (args .image))) (args .state) (args .board) (args .cell) (args .n) (args .room)
     (sym (range .if1 .left) ∙ range .before .bad-range .ensures) (tag .before .if2 .left)
     (omega (arith, tag .block-tag .ensures))
@@ -88,6 +96,7 @@ read-tests-spec =
     block-tag-requires
     cast-if3
     returns-3
+    engaged-requires
     cast-has
     has-requires
     returns-4

@@ -1,20 +1,20 @@
 -- `announce` meets its contract: three bytes past the mark, in this order.
-use borrow.Author.Needs.{needs}
 use native.Mathlib.Omega.{arith}
+use borrow.Author.Needs.{needs}
 use Rattle.protocol.specs.Image.{total}
 use Rattle.blocks.proofs.Blocks.{announced}
 use Rattle.blocks.proofs.announce.Statement.{statement}
 use Rattle.blocks.proofs.announce.Tie as tie
 
 cast-store : tie.Need-cast-store
-cast-store c = search needs
+cast-store c = omega arith
 
 store-requires : tie.Need-store-requires
 unfolding total
 store-requires c κs = omega arith
 
 cast-store-2 : tie.Need-cast-store-2
-cast-store-2 c = search needs
+cast-store-2 c = omega arith
 
 store-requires-2 : tie.Need-store-requires-2
 unfolding total

@@ -1,16 +1,17 @@
 -- `complete` meets its contract: the members' blocks, their contexts, byte 9.
 use mathlib.Core.Path.{_∙_}
-use borrow.Author.Needs.{needs}
 use native.Mathlib.Omega.{arith}
+use borrow.Author.Needs.{needs}
 use Rattle.protocol.specs.Image.{total}
 use Rattle.blocks.specs.Banks.{bank}
-use Rattle.blocks.proofs.Blocks.{puts-length, puts-well, cleared}
+use Rattle.blocks.proofs.Blocks.{cleared}
+use Rattle.store.proofs.Chains.{puts-length, puts-well}
 use Rattle.blocks.proofs.Composite.{completes}
 use Rattle.blocks.proofs.complete.Statement.{statement}
 use Rattle.blocks.proofs.complete.Tie as tie
 
 copy-blocks-requires : tie.Need-copy-blocks-requires
-copy-blocks-requires c κs = search needs
+copy-blocks-requires c κs = c .before .before .pre
 
 copy-contexts-requires : tie.Need-copy-contexts-requires
 copy-contexts-requires c κs =

@@ -1,10 +1,9 @@
 -- `copy_block` meets its contract: nothing for a block of no member, else its bytes and its tag.
 use Prim.Native.Nat.{ℕ, _+_, _*_}
 use mathlib.Core.Path.{sym, _∙_, ap}
-use borrow.Author.Needs.{needs}
 use native.Mathlib.Omega.{arith}
 use Rattle.protocol.specs.Image.{total, base}
-use Rattle.protocol.proofs.Basics.{not-true, not-false}
+use Rattle.boards.proofs.Basics.{not-true, not-false}
 use Rattle.layout.proofs.Laws.{bounded}
 use Rattle.blocks.proofs.Blocks.{block-fits, block-left, block-done, ranges-fit}
 use Rattle.blocks.proofs.copy_block.Statement.{statement}
@@ -18,7 +17,7 @@ unfolding total
 slice-read-tag c = omega arith
 
 tagged-in-requires : tie.Need-tagged-in-requires
-tagged-in-requires c κs = search needs
+tagged-in-requires c κs = tt
 
 returns : tie.Need-returns
 returns c =
@@ -30,7 +29,7 @@ mul-cells : tie.Need-mul-cells
 mul-cells c = omega (arith, bounded (c .before .before .before .before .before .pre .0))
 
 current-at-requires : tie.Need-current-at-requires
-current-at-requires c κs = search needs
+current-at-requires c κs = c .before .before .before .before .before .pre .0
 
 mul-at : tie.Need-mul-at
 mul-at c =
@@ -44,10 +43,10 @@ add-at c =
     omega (arith, bounded (start .pre .0), block-fits (start .args .s) (start .args .b) (start .pre .2), c .current-at .ensures)
 
 offset-requires : tie.Need-offset-requires
-offset-requires c κs = search needs
+offset-requires c κs = tt
 
 offset-requires-2 : tie.Need-offset-requires-2
-offset-requires-2 c κs = search needs
+offset-requires-2 c κs = tt
 
 copy-at-requires : tie.Need-copy-at-requires
 copy-at-requires c κs =
@@ -68,7 +67,7 @@ unfolding total
 store-requires c κs = omega arith
 
 same-length : tie.Need-same-length
-same-length c = search needs
+same-length c = c .before .image2 .given ∙ c .before .before .before .before .before .image .given
 
 returns-2 : tie.Need-returns-2
 returns-2 c =

@@ -3,13 +3,14 @@ use Prim.Native.Nat.{_+_, _-_, _≤_}
 use mathlib.Core.Path.{_≡_, _∙_, subst}
 use native.Mathlib.Omega.{arith}
 use denote.Ref.{now}
-use Rattle.protocol.specs.Lists.{for}
+use Rattle.boards.specs.Lists.{for}
 use Rattle.protocol.specs.Image.{view}
 use Rattle.protocol.specs.Calls.{blocks-copied}
 use Rattle.layout.proofs.Laws.{bounded}
-use Rattle.blocks.specs.Puts.{Puts}
+use Rattle.store.specs.Puts.{Puts}
 use Rattle.blocks.specs.Banks.{block-puts}
-use Rattle.blocks.proofs.Blocks.{blocks-again, blocks-skip, puts-length, puts-none}
+use Rattle.blocks.proofs.Blocks.{blocks-again, blocks-skip}
+use Rattle.store.proofs.Chains.{puts-length, puts-none}
 use Rattle.blocks.proofs.copy_blocks.Statement.{statement}
 use Rattle.blocks.proofs.copy_blocks.Tie as tie
 

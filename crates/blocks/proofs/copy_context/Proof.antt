@@ -2,10 +2,9 @@
 use Prim.Native.Nat.{ℕ, _+_, _*_}
 use mathlib.Core.Path.{refl, sym, _∙_, ap}
 use mathlib.Core.Logic.{inl}
-use borrow.Author.Needs.{needs}
 use native.Mathlib.Omega.{arith}
 use Rattle.protocol.specs.Image.{total, base}
-use Rattle.protocol.proofs.Basics.{not-true, not-false}
+use Rattle.boards.proofs.Basics.{not-true, not-false}
 use Rattle.layout.proofs.Laws.{bounded}
 use Rattle.blocks.proofs.Blocks.{context-fits, context-left, context-done}
 use Rattle.blocks.proofs.copy_context.Statement.{statement}
@@ -26,7 +25,7 @@ mul-all : tie.Need-mul-all
 mul-all c = omega (arith, bounded (c .before .before .before .before .pre .0))
 
 tentative-at-requires : tie.Need-tentative-at-requires
-tentative-at-requires c κs = search needs
+tentative-at-requires c κs = c .before .before .before .before .pre .0
 
 mul-at : tie.Need-mul-at
 mul-at c =
@@ -48,7 +47,7 @@ copy-at-requires c κs =
     ((omega (arith, tent .tentative-at .ensures), omega (arith, tent .tentative-at .ensures)), inl (omega arith))
 
 same-length : tie.Need-same-length
-same-length c = search needs
+same-length c = c .before .image .given
 
 returns-2 : tie.Need-returns-2
 returns-2 c =

@@ -3,12 +3,13 @@ use Prim.Native.Nat.{_-_, _≤_}
 use mathlib.Core.Path.{_≡_, _∙_, subst}
 use native.Mathlib.Omega.{arith}
 use denote.Ref.{now}
-use Rattle.protocol.specs.Lists.{for}
+use Rattle.boards.specs.Lists.{for}
 use Rattle.protocol.specs.Image.{view}
 use Rattle.protocol.specs.Calls.{context-saved}
 use Rattle.layout.proofs.Laws.{bounded}
-use Rattle.blocks.specs.Puts.{Puts}
-use Rattle.blocks.proofs.Blocks.{contexts-again, puts-length, puts-none}
+use Rattle.store.specs.Puts.{Puts}
+use Rattle.blocks.proofs.Blocks.{contexts-again}
+use Rattle.store.proofs.Chains.{puts-length, puts-none}
 use Rattle.blocks.proofs.copy_contexts.Statement.{statement}
 use Rattle.blocks.proofs.copy_contexts.Tie as tie
 

@@ -6,7 +6,7 @@ use native.Mathlib.Omega.{arith}
 use borrow.Author.Needs.{needs}
 use lib.ListN.{getD}
 use Rattle.protocol.specs.Image.{total}
-use Rattle.protocol.proofs.Basics.{below-suc}
+use Rattle.boards.proofs.Basics.{below-suc}
 use Rattle.layout.proofs.Laws.{bounded}
 use Rattle.blocks.proofs.next_tagged.Statement.{statement}
 use Rattle.blocks.proofs.next_tagged.Tie as tie
@@ -32,10 +32,10 @@ returns : tie.Need-returns Inv-loop μ-loop
 returns c = search needs
 
 add-i : tie.Need-add-i Inv-loop μ-loop
-add-i c = search needs
+add-i c = omega arith
 
 loop-less : tie.Need-loop-less Inv-loop μ-loop
-loop-less c = search needs
+loop-less c = omega arith
 
 loop-again : tie.Need-loop-again Inv-loop μ-loop
 loop-again c =

@@ -1,4 +1,5 @@
 -- `count_up` stays within its slices and ends.
+use native.Mathlib.Omega.{arith}
 use borrow.Author.Needs.{needs}
 use Prim.Native.Nat.{_-_}
 use mathlib.Core.Path.{_≡_}
@@ -13,19 +14,19 @@ abbrev μ-loop : tie.MeasureT-loop
 μ-loop source₀ i₀ source i = length source₀ - i
 
 loop-holds : tie.Need-loop-holds Inv-loop μ-loop
-loop-holds c = search needs
+loop-holds c = omega arith
 
 cast-source : tie.Need-cast-source Inv-loop μ-loop
-cast-source c = search needs
+cast-source c = omega arith
 
 slice-write-source : tie.Need-slice-write-source Inv-loop μ-loop
-slice-write-source c = search needs
+slice-write-source c = omega arith
 
 add-i : tie.Need-add-i Inv-loop μ-loop
-add-i c = search needs
+add-i c = omega arith
 
 loop-less : tie.Need-loop-less Inv-loop μ-loop
-loop-less c = search needs
+loop-less c = omega arith
 
 loop-again : tie.Need-loop-again Inv-loop μ-loop
 loop-again c = search needs
@@ -34,7 +35,7 @@ same-length : tie.Need-same-length Inv-loop μ-loop
 same-length c = search needs
 
 returns : tie.Need-returns Inv-loop μ-loop
-returns c = search needs
+returns c = omega arith
 
 pub count-up-spec : {M : Type 1} → statement M
 count-up-spec =

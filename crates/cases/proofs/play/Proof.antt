@@ -1,4 +1,5 @@
 -- `play` stays within its slices and ends.
+use native.Mathlib.Omega.{arith}
 use borrow.Author.Needs.{needs}
 use Prim.Native.Nat.{_-_}
 use mathlib.Core.Path.{_≡_}
@@ -15,34 +16,34 @@ abbrev μ-loop : tie.MeasureT-loop
 μ-loop text image₀ before₀ other₀ spare₀ source bench₀ at₀ image before other spare bench at = length text - at
 
 new-requires : tie.Need-new-requires Inv-loop μ-loop
-new-requires c κs = search needs
+new-requires c κs = tt
 
 loop-holds : tie.Need-loop-holds Inv-loop μ-loop
-loop-holds c = search needs
+loop-holds c = omega arith
 
 line-end-requires : tie.Need-line-end-requires Inv-loop μ-loop
 line-end-requires c κs = search needs
 
 sub-play-line : tie.Need-sub-play-line Inv-loop μ-loop
-sub-play-line c = search needs
+sub-play-line c = omega arith
 
 part-play-line-start : tie.Need-part-play-line-start Inv-loop μ-loop
-part-play-line-start c = search needs
+part-play-line-start c = omega arith
 
 part-play-line-end : tie.Need-part-play-line-end Inv-loop μ-loop
-part-play-line-end c = search needs
+part-play-line-end c = omega arith
 
 play-line-requires : tie.Need-play-line-requires Inv-loop μ-loop
-play-line-requires c κs = search needs
+play-line-requires c κs = tt
 
 after-requires : tie.Need-after-requires Inv-loop μ-loop
 after-requires c κs = search needs
 
 loop-less : tie.Need-loop-less Inv-loop μ-loop
-loop-less c = search needs
+loop-less c = omega arith
 
 loop-again : tie.Need-loop-again Inv-loop μ-loop
-loop-again c = search needs
+loop-again c = omega arith
 
 same-length : tie.Need-same-length Inv-loop μ-loop
 same-length c = search needs
@@ -57,7 +58,7 @@ same-length-4 : tie.Need-same-length-4 Inv-loop μ-loop
 same-length-4 c = search needs
 
 returns : tie.Need-returns Inv-loop μ-loop
-returns c = search needs
+returns c = omega arith
 
 pub play-spec : {M : Type 1} → statement M
 play-spec =

@@ -3,43 +3,44 @@ use mathlib.Core.Path.{refl, sym, _∙_}
 use borrow.Author.Needs.{needs}
 use native.Mathlib.Omega.{arith}
 use denote.Ref.{now}
-use Rattle.protocol.specs.Calls.{Start, record-refused, plan, budget}
-use Rattle.entry.proofs.Laws.{common-geometry}
-use Rattle.commit.proofs.Laws.{started, performed, refused-with, board-small, ready, start-common, start-long, start-open, start-passes}
+use Rattle.protocol.specs.Calls.{Start, record-refused, plan}
+use Rattle.entry.proofs.Laws.{entry-geometry, entry-small, ready}
+use Rattle.commit.proofs.Laws.{started, started-group, performed, refused-with, start-entry, start-long}
+use Rattle.commit.proofs.Laws.{start-open, start-passes}
 use Rattle.commit.proofs.start.Statement.{statement}
 use Rattle.commit.proofs.start.Tie as tie
 
-common-refusal-requires : tie.Need-common-refusal-requires
-common-refusal-requires c κs = search needs
+entry-refusal-requires : tie.Need-entry-refusal-requires
+entry-refusal-requires c κs = tt
 
 refusal-requires : tie.Need-refusal-requires
-refusal-requires c κs = search needs
+refusal-requires c κs = tt
 
 same-length : tie.Need-same-length
-same-length c = search needs
+same-length c = refl
 
 returns : tie.Need-returns
 unfolding record-refused
 returns c =
     let asked = c .before .before in
     let args = asked .before .before .before .before .args in
-    refused-with (args .state) (Start (args .board) (now (args .context)) (args .k)) refl
-    (start-common _ _ _ _ _ _ _ (asked .common-refusal .ensures) (c .before .if1 .taken)) (c .before .if1 .taken) refl
+    refused-with (args .state) (Start (args .board) (now (args .context))) refl
+    (start-entry _ _ _ _ _ _ (asked .entry-refusal .ensures) (c .before .if1 .taken)) (c .before .if1 .taken) refl
     (c .refusal .ensures)
 
 shape-of-requires : tie.Need-shape-of-requires
 shape-of-requires c κs =
     let asked = c .before in
     let args = asked .before .before .before .before .before .args in
-    let passed = sym (asked .if1 .left) ∙ asked .before .common-refusal .ensures in
-    let g = common-geometry (now (args .image)) (args .state) (args .board) passed in
+    let passed = sym (asked .if1 .left) ∙ asked .before .entry-refusal .ensures in
+    let g = entry-geometry (now (args .image)) (args .state) (args .board) passed in
     (omega arith, g .power)
 
 refusal-requires-2 : tie.Need-refusal-requires-2
-refusal-requires-2 c κs = search needs
+refusal-requires-2 c κs = tt
 
 same-length-2 : tie.Need-same-length-2
-same-length-2 c = search needs
+same-length-2 c = refl
 
 returns-2 : tie.Need-returns-2
 unfolding record-refused
@@ -47,15 +48,18 @@ returns-2 c =
     let shaped = c .before .before .before in
     let asked = shaped .before .before in
     let args = asked .before .before .before .before .before .args in
-    let passed = sym (asked .if1 .left) ∙ asked .before .common-refusal .ensures in
-    refused-with (args .state) (Start (args .board) (now (args .context)) (args .k)) (shaped .shape-of .ensures)
-    (start-long _ _ _ _ _ _ _ passed (c .before .if2 .taken)) (omega arith) refl (c .refusal2 .ensures)
+    let passed = sym (asked .if1 .left) ∙ asked .before .entry-refusal .ensures in
+    refused-with (args .state) (Start (args .board) (now (args .context))) (shaped .shape-of .ensures)
+    (start-long _ _ _ _ _ _ passed (c .before .if2 .taken)) (omega arith) refl (c .refusal2 .ensures)
+
+engaged-requires : tie.Need-engaged-requires
+engaged-requires c κs = tt
 
 refusal-requires-3 : tie.Need-refusal-requires-3
-refusal-requires-3 c κs = search needs
+refusal-requires-3 c κs = tt
 
 same-length-3 : tie.Need-same-length-3
-same-length-3 c = search needs
+same-length-3 c = refl
 
 returns-3 : tie.Need-returns-3
 unfolding record-refused
@@ -64,30 +68,31 @@ returns-3 c =
     let shaped = fitted .before .before in
     let asked = shaped .before .before in
     let args = asked .before .before .before .before .before .args in
-    let passed = sym (asked .if1 .left) ∙ asked .before .common-refusal .ensures in
-    refused-with (args .state) (Start (args .board) (now (args .context)) (args .k)) (shaped .shape-of .ensures)
-    (start-open _ _ _ _ _ _ _ passed (fitted .if2 .left) (c .before .if3 .taken)) (omega arith) refl (c .refusal3 .ensures)
+    let passed = sym (asked .if1 .left) ∙ asked .before .entry-refusal .ensures in
+    refused-with (args .state) (Start (args .board) (now (args .context))) (shaped .shape-of .ensures)
+    (start-open _ _ _ _ _ _ passed (fitted .if2 .left)
+    (λ z. c .before .if3 .taken (c .before .before .engaged .ensures ∙ z))) (omega arith) refl (c .refusal3 .ensures)
 
 cast-i : tie.Need-cast-i
 cast-i c =
     let asked = c .before .before .before .before .before .before in
     let args = asked .before .before .before .before .before .args in
-    let passed = sym (asked .if1 .left) ∙ asked .before .common-refusal .ensures in
-    omega (arith, board-small (now (args .image)) (args .state) (args .board) passed)
+    let passed = sym (asked .if1 .left) ∙ asked .before .entry-refusal .ensures in
+    omega (arith, entry-small (now (args .image)) (args .state) (args .board) passed)
 
 commit-closure-requires : tie.Need-commit-closure-requires
 commit-closure-requires c κs =
     let asked = c .before .before .before .before .before .before .before in
     let args = asked .before .before .before .before .before .args in
-    let passed = sym (asked .if1 .left) ∙ asked .before .common-refusal .ensures in
-    omega (arith, board-small (now (args .image)) (args .state) (args .board) passed)
+    let passed = sym (asked .if1 .left) ∙ asked .before .entry-refusal .ensures in
+    omega (arith, entry-small (now (args .image)) (args .state) (args .board) passed)
 
 start-requires : tie.Need-start-requires
 start-requires c κs =
     let asked = c .before .before .before .before .before .before .before .before in
     let args = asked .before .before .before .before .before .args in
-    let passed = sym (asked .if1 .left) ∙ asked .before .common-refusal .ensures in
-    omega (arith, board-small (now (args .image)) (args .state) (args .board) passed)
+    let passed = sym (asked .if1 .left) ∙ asked .before .entry-refusal .ensures in
+    omega (arith, entry-small (now (args .image)) (args .state) (args .board) passed)
 
 give-requires : tie.Need-give-requires
 give-requires c κs =
@@ -95,15 +100,18 @@ give-requires c κs =
     let shaped = fitted .before .before in
     let asked = shaped .before .before in
     let args = asked .before .before .before .before .before .args in
-    let passed = sym (asked .if1 .left) ∙ asked .before .common-refusal .ensures in
+    let passed = sym (asked .if1 .left) ∙ asked .before .entry-refusal .ensures in
     let all = ready (now (args .image)) (args .state) (args .board) passed (shaped .shape-of .ensures) in
-    (all .0, all .1, all .2, fitted .if2 .left)
+    let opened = c .before in
+    let group = started-group (args .state) (args .board) (opened .start .ensures)
+    (opened .before .commit-closure .ensures) in
+    (all .0, all .1, all .2, fitted .if2 .left, group)
 
 same-length-4 : tie.Need-same-length-4
-same-length-4 c = search needs
+same-length-4 c = c .before .image .given
 
 returns-4 : tie.Need-returns-4
-unfolding plan budget
+unfolding plan
 returns-4 c =
     let gave = c .before .before in
     let opened = gave .before .before in
@@ -113,16 +121,16 @@ returns-4 c =
     let shaped = fitted .before .before in
     let asked = shaped .before .before in
     let args = asked .before .before .before .before .before .args in
-    let passed = sym (asked .if1 .left) ∙ asked .before .common-refusal .ensures in
-    performed (args .state) (Start (args .board) (now (args .context)) (args .k)) (shaped .shape-of .ensures)
-    (start-passes _ _ _ _ _ _ _ passed (fitted .if2 .left) (free .if3 .left))
+    let passed = sym (asked .if1 .left) ∙ asked .before .entry-refusal .ensures in
+    performed (args .state) (Start (args .board) (now (args .context))) (shaped .shape-of .ensures)
+    (start-passes _ _ _ _ _ _ passed (fitted .if2 .left) (sym (free .before .engaged .ensures) ∙ free .if3 .left))
     (gave .give .ensures _ (started (args .state) (args .board) (opened .start .ensures) (grouped .commit-closure .ensures .members)))
 
 pub start-spec : {M : Type 1} → statement M
 start-spec =
     tie.close
     (tie.spec
-    common-refusal-requires
+    entry-refusal-requires
     refusal-requires
     same-length
     returns
@@ -130,6 +138,7 @@ start-spec =
     refusal-requires-2
     same-length-2
     returns-2
+    engaged-requires
     refusal-requires-3
     same-length-3
     returns-3

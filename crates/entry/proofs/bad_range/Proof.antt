@@ -1,5 +1,4 @@
 -- `bad_range` meets its contract: its tests in their order, with no sum that could wrap.
-use borrow.Author.Needs.{needs}
 use native.Mathlib.Omega.{arith}
 use Rattle.layout.proofs.Laws.{bounded}
 use Rattle.entry.proofs.Laws.{range-none, range-long, range-past, range-block}
@@ -39,7 +38,7 @@ add-result : tie.Need-add-result
 add-result c = omega (arith, bounded (c .before .before .before .before .before .pre))
 
 sub-result : tie.Need-sub-result
-sub-result c = search needs
+sub-result c = omega arith
 
 div-result-2 : tie.Need-div-result-2
 div-result-2 c = omega arith

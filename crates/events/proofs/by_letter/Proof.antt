@@ -9,17 +9,17 @@ use Rattle.events.proofs.by_letter.Statement.{statement}
 use Rattle.events.proofs.by_letter.Tie as tie
 
 shared-slice-read-letter : tie.Need-shared-slice-read-letter
-shared-slice-read-letter c = search needs
+shared-slice-read-letter c = omega arith
 
 take-format-requires : tie.Need-take-format-requires
-take-format-requires c κs = search needs
+take-format-requires c κs = tt
 
 returns : tie.Need-returns
 unfolding by-letter
 returns c = (c .take-format .ensures .0 _ ∙ chosen _ (c .before .if1 .taken), c .take-format .ensures .1)
 
 take-read-requires : tie.Need-take-read-requires
-take-read-requires c κs = search needs
+take-read-requires c κs = tt
 
 returns-2 : tie.Need-returns-2
 unfolding by-letter
@@ -29,7 +29,7 @@ take-write-requires : tie.Need-take-write-requires
 take-write-requires c κs = search needs
 
 same-length : tie.Need-same-length
-same-length c = search needs
+same-length c = c .before .buffer .given
 
 returns-3 : tie.Need-returns-3
 unfolding by-letter
@@ -41,7 +41,7 @@ take-commit-requires : tie.Need-take-commit-requires
 take-commit-requires c κs = search needs
 
 same-length-2 : tie.Need-same-length-2
-same-length-2 c = search needs
+same-length-2 c = c .before .buffer2 .given
 
 returns-4 : tie.Need-returns-4
 unfolding by-letter
@@ -53,7 +53,7 @@ take-commit-requires-2 : tie.Need-take-commit-requires-2
 take-commit-requires-2 c κs = search needs
 
 same-length-3 : tie.Need-same-length-3
-same-length-3 c = search needs
+same-length-3 c = c .before .buffer3 .given
 
 returns-5 : tie.Need-returns-5
 unfolding by-letter
@@ -62,7 +62,7 @@ returns-5 c =
     (done .take-commit2 .ensures .0 ∙ chosen _ (done .before .before .if5 .taken), done .take-commit2 .ensures .1)
 
 take-fault-requires : tie.Need-take-fault-requires
-take-fault-requires c κs = search needs
+take-fault-requires c κs = tt
 
 returns-6 : tie.Need-returns-6
 unfolding by-letter
@@ -73,7 +73,7 @@ unfolding meant by-letter counted
 returns-7 c = (chosen _ (c .if7 .taken), omega arith)
 
 take-allow-requires : tie.Need-take-allow-requires
-take-allow-requires c κs = search needs
+take-allow-requires c κs = tt
 
 returns-8 : tie.Need-returns-8
 returns-8 c =

@@ -1,7 +1,6 @@
 -- `take_allow` meets its contract.
 use mathlib.Core.Path.{sym}
 use native.Mathlib.Omega.{arith}
-use borrow.Author.Needs.{needs}
 use Rattle.text.specs.Events.{meant, allow-of}
 use Rattle.text.specs.Events.{counted}
 use Rattle.events.proofs.Laws.{first-as, stop, allow-made}
@@ -9,16 +8,16 @@ use Rattle.events.proofs.take_allow.Statement.{statement}
 use Rattle.events.proofs.take_allow.Tie as tie
 
 after-requires : tie.Need-after-requires
-after-requires c κs = search needs
+after-requires c κs = tt
 
 first-number-requires : tie.Need-first-number-requires
-first-number-requires c κs = search needs
+first-number-requires c κs = tt
 
 enum-known-k : tie.Need-enum-known-k
-enum-known-k c = search needs
+enum-known-k c = omega arith
 
 enum-told : tie.Need-enum-told
-enum-told c = search needs
+enum-told c = omega arith
 
 returns : tie.Need-returns
 unfolding meant allow-of counted

@@ -1,8 +1,7 @@
 -- `take_apart` meets its contract.
 use mathlib.Core.Path.{sym, _∙_}
 use native.Mathlib.Omega.{arith}
-use borrow.Author.Needs.{needs}
-use Rattle.protocol.proofs.Basics.{not-true, not-false}
+use Rattle.boards.proofs.Basics.{not-true, not-false}
 use Rattle.text.specs.Events.{meant}
 use Rattle.text.specs.Events.{counted}
 use Rattle.events.proofs.Laws.{taken-other, taken-parted, parted-fits}
@@ -10,7 +9,7 @@ use Rattle.events.proofs.take_apart.Statement.{statement}
 use Rattle.events.proofs.take_apart.Tie as tie
 
 well-parted-requires : tie.Need-well-parted-requires
-well-parted-requires c κs = search needs
+well-parted-requires c κs = tt
 
 returns : tie.Need-returns
 unfolding meant counted
@@ -23,7 +22,7 @@ by-letter-requires c κs =
     (fits .0, fits .1, omega arith)
 
 same-length : tie.Need-same-length
-same-length c = search needs
+same-length c = c .before .buffer .given
 
 returns-2 : tie.Need-returns-2
 returns-2 c =

@@ -2,8 +2,7 @@
 use mathlib.Core.Path.{sym, _∙_, ap}
 use native.Mathlib.Omega.{arith}
 use lib.ListN.{length}
-use borrow.Author.Needs.{needs}
-use Rattle.protocol.proofs.Basics.{if-true, if-false}
+use Rattle.boards.proofs.Basics.{if-true, if-false}
 use Rattle.text.specs.Events.{meant, start-of, acknowledge-of}
 use Rattle.text.specs.Events.{counted}
 use Rattle.events.proofs.Laws.{field-fits, stop, past, first-as, second, told, other, count-fits}
@@ -12,16 +11,16 @@ use Rattle.events.proofs.take_commit.Statement.{statement}
 use Rattle.events.proofs.take_commit.Tie as tie
 
 after-requires : tie.Need-after-requires
-after-requires c κs = search needs
+after-requires c κs = tt
 
 first-number-requires : tie.Need-first-number-requires
-first-number-requires c κs = search needs
+first-number-requires c κs = tt
 
 enum-known-board : tie.Need-enum-known-board
-enum-known-board c = search needs
+enum-known-board c = omega arith
 
 enum-told : tie.Need-enum-told
-enum-told c = search needs
+enum-told c = omega arith
 
 returns : tie.Need-returns
 unfolding meant start-of acknowledge-of counted
@@ -33,10 +32,10 @@ returns c =
     (either (entry .args .starts) (sym (stop _ wrong)) (sym (stop _ wrong)), omega arith)
 
 after-requires-2 : tie.Need-after-requires-2
-after-requires-2 c κs = search needs
+after-requires-2 c κs = tt
 
 before-requires : tie.Need-before-requires
-before-requires c κs = search needs
+before-requires c κs = tt
 
 read-bytes-requires : tie.Need-read-bytes-requires
 read-bytes-requires c κs =
@@ -50,13 +49,13 @@ read-bytes-requires c κs =
     omega (arith, ap length place, field-fits 2 s)
 
 enum-known-count : tie.Need-enum-known-count
-enum-known-count c = search needs
+enum-known-count c = omega arith
 
 enum-told-2 : tie.Need-enum-told-2
-enum-told-2 c = search needs
+enum-told-2 c = omega arith
 
 same-length : tie.Need-same-length
-same-length c = search needs
+same-length c = c .before .before .before .buffer .given
 
 returns-2 : tie.Need-returns-2
 unfolding meant start-of acknowledge-of counted
@@ -75,7 +74,7 @@ returns-2 c =
     (either (entry .args .starts) (sym start) (sym acknowledge), omega arith)
 
 same-length-2 : tie.Need-same-length-2
-same-length-2 c = search needs
+same-length-2 c = c .before .before .before .before .before .buffer .given
 
 returns-3 : tie.Need-returns-3
 unfolding meant counted
@@ -94,7 +93,7 @@ returns-3 c =
     (start-made s first some ∙ sym (if-true _ _ (c .if1 .taken)), count-fits some (omega (arith, field-fits 2 s)))
 
 same-length-3 : tie.Need-same-length-3
-same-length-3 c = search needs
+same-length-3 c = c .before .before .before .before .before .buffer .given
 
 returns-4 : tie.Need-returns-4
 unfolding meant counted

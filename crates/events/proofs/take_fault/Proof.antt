@@ -1,7 +1,6 @@
 -- `take_fault` meets its contract.
 use mathlib.Core.Path.{sym}
 use native.Mathlib.Omega.{arith}
-use borrow.Author.Needs.{needs}
 use Rattle.text.specs.Events.{meant, fault-of}
 use Rattle.text.specs.Events.{counted}
 use Rattle.events.proofs.Laws.{first-as, stop, fault-made}
@@ -9,16 +8,16 @@ use Rattle.events.proofs.take_fault.Statement.{statement}
 use Rattle.events.proofs.take_fault.Tie as tie
 
 after-requires : tie.Need-after-requires
-after-requires c κs = search needs
+after-requires c κs = tt
 
 first-number-requires : tie.Need-first-number-requires
-first-number-requires c κs = search needs
+first-number-requires c κs = tt
 
 enum-known-board : tie.Need-enum-known-board
-enum-known-board c = search needs
+enum-known-board c = omega arith
 
 enum-told : tie.Need-enum-told
-enum-told c = search needs
+enum-told c = omega arith
 
 returns : tie.Need-returns
 unfolding meant fault-of counted

@@ -1,7 +1,6 @@
 -- `take_format` meets its contract.
 use mathlib.Core.Path.{sym}
 use native.Mathlib.Omega.{arith}
-use borrow.Author.Needs.{needs}
 use Rattle.text.specs.Events.{meant, format-of}
 use Rattle.text.specs.Events.{counted}
 use Rattle.events.proofs.Laws.{stop, past, first-as, second-as, third-as, fourth-as, format-made}
@@ -9,16 +8,16 @@ use Rattle.events.proofs.take_format.Statement.{statement}
 use Rattle.events.proofs.take_format.Tie as tie
 
 after-requires : tie.Need-after-requires
-after-requires c κs = search needs
+after-requires c κs = tt
 
 first-number-requires : tie.Need-first-number-requires
-first-number-requires c κs = search needs
+first-number-requires c κs = tt
 
 enum-known-boards : tie.Need-enum-known-boards
-enum-known-boards c = search needs
+enum-known-boards c = omega arith
 
 enum-told : tie.Need-enum-told
-enum-told c = search needs
+enum-told c = omega arith
 
 returns : tie.Need-returns
 unfolding meant format-of counted
@@ -29,16 +28,16 @@ returns c =
     (λ b. sym (stop _ wrong), omega arith)
 
 after-requires-2 : tie.Need-after-requires-2
-after-requires-2 c κs = search needs
+after-requires-2 c κs = tt
 
 first-number-requires-2 : tie.Need-first-number-requires-2
-first-number-requires-2 c κs = search needs
+first-number-requires-2 c κs = tt
 
 enum-known-size : tie.Need-enum-known-size
-enum-known-size c = search needs
+enum-known-size c = omega arith
 
 enum-told-2 : tie.Need-enum-told-2
-enum-told-2 c = search needs
+enum-told-2 c = omega arith
 
 returns-2 : tie.Need-returns-2
 unfolding meant format-of counted
@@ -51,16 +50,16 @@ returns-2 c =
     (λ b. sym (past _ _ (λ p. stop _ wrong)), omega arith)
 
 after-requires-3 : tie.Need-after-requires-3
-after-requires-3 c κs = search needs
+after-requires-3 c κs = tt
 
 first-number-requires-3 : tie.Need-first-number-requires-3
-first-number-requires-3 c κs = search needs
+first-number-requires-3 c κs = tt
 
 enum-known-blocks : tie.Need-enum-known-blocks
-enum-known-blocks c = search needs
+enum-known-blocks c = omega arith
 
 enum-told-3 : tie.Need-enum-told-3
-enum-told-3 c = search needs
+enum-told-3 c = omega arith
 
 returns-3 : tie.Need-returns-3
 unfolding meant format-of counted
@@ -76,16 +75,16 @@ returns-3 c =
     (λ b. sym (past _ _ (λ p. past _ _ (λ q. stop _ wrong))), omega arith)
 
 after-requires-4 : tie.Need-after-requires-4
-after-requires-4 c κs = search needs
+after-requires-4 c κs = tt
 
 first-number-requires-4 : tie.Need-first-number-requires-4
-first-number-requires-4 c κs = search needs
+first-number-requires-4 c κs = tt
 
 enum-known-context : tie.Need-enum-known-context
-enum-known-context c = search needs
+enum-known-context c = omega arith
 
 enum-told-4 : tie.Need-enum-told-4
-enum-told-4 c = search needs
+enum-told-4 c = omega arith
 
 returns-4 : tie.Need-returns-4
 unfolding meant format-of counted

@@ -1,7 +1,6 @@
 -- `take_read` meets its contract.
 use mathlib.Core.Path.{sym}
 use native.Mathlib.Omega.{arith}
-use borrow.Author.Needs.{needs}
 use Rattle.text.specs.Events.{meant, read-of}
 use Rattle.text.specs.Events.{counted}
 use Rattle.events.proofs.Laws.{stop, past, first-as, second-as, third-as, read-made}
@@ -9,16 +8,16 @@ use Rattle.events.proofs.take_read.Statement.{statement}
 use Rattle.events.proofs.take_read.Tie as tie
 
 after-requires : tie.Need-after-requires
-after-requires c κs = search needs
+after-requires c κs = tt
 
 first-number-requires : tie.Need-first-number-requires
-first-number-requires c κs = search needs
+first-number-requires c κs = tt
 
 enum-known-board : tie.Need-enum-known-board
-enum-known-board c = search needs
+enum-known-board c = omega arith
 
 enum-told : tie.Need-enum-told
-enum-told c = search needs
+enum-told c = omega arith
 
 returns : tie.Need-returns
 unfolding meant read-of counted
@@ -29,16 +28,16 @@ returns c =
     (λ b. sym (stop _ wrong), omega arith)
 
 after-requires-2 : tie.Need-after-requires-2
-after-requires-2 c κs = search needs
+after-requires-2 c κs = tt
 
 first-number-requires-2 : tie.Need-first-number-requires-2
-first-number-requires-2 c κs = search needs
+first-number-requires-2 c κs = tt
 
 enum-known-cell : tie.Need-enum-known-cell
-enum-known-cell c = search needs
+enum-known-cell c = omega arith
 
 enum-told-2 : tie.Need-enum-told-2
-enum-told-2 c = search needs
+enum-told-2 c = omega arith
 
 returns-2 : tie.Need-returns-2
 unfolding meant read-of counted
@@ -51,16 +50,16 @@ returns-2 c =
     (λ b. sym (past _ _ (λ p. stop _ wrong)), omega arith)
 
 after-requires-3 : tie.Need-after-requires-3
-after-requires-3 c κs = search needs
+after-requires-3 c κs = tt
 
 first-number-requires-3 : tie.Need-first-number-requires-3
-first-number-requires-3 c κs = search needs
+first-number-requires-3 c κs = tt
 
 enum-known-n : tie.Need-enum-known-n
-enum-known-n c = search needs
+enum-known-n c = omega arith
 
 enum-told-3 : tie.Need-enum-told-3
-enum-told-3 c = search needs
+enum-told-3 c = omega arith
 
 returns-3 : tie.Need-returns-3
 unfolding meant read-of counted

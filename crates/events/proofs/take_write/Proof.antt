@@ -2,7 +2,6 @@
 use mathlib.Core.Path.{sym, ap}
 use native.Mathlib.Omega.{arith}
 use lib.ListN.{length}
-use borrow.Author.Needs.{needs}
 use Rattle.text.specs.Events.{meant, write-of}
 use Rattle.text.specs.Events.{counted}
 use Rattle.events.proofs.Laws.{field-fits, stop, past, first-as, second-as, third}
@@ -11,16 +10,16 @@ use Rattle.events.proofs.take_write.Statement.{statement}
 use Rattle.events.proofs.take_write.Tie as tie
 
 after-requires : tie.Need-after-requires
-after-requires c κs = search needs
+after-requires c κs = tt
 
 first-number-requires : tie.Need-first-number-requires
-first-number-requires c κs = search needs
+first-number-requires c κs = tt
 
 enum-known-board : tie.Need-enum-known-board
-enum-known-board c = search needs
+enum-known-board c = omega arith
 
 enum-told : tie.Need-enum-told
-enum-told c = search needs
+enum-told c = omega arith
 
 returns : tie.Need-returns
 unfolding meant write-of counted
@@ -31,16 +30,16 @@ returns c =
     (sym (stop _ wrong), omega arith)
 
 after-requires-2 : tie.Need-after-requires-2
-after-requires-2 c κs = search needs
+after-requires-2 c κs = tt
 
 first-number-requires-2 : tie.Need-first-number-requires-2
-first-number-requires-2 c κs = search needs
+first-number-requires-2 c κs = tt
 
 enum-known-cell : tie.Need-enum-known-cell
-enum-known-cell c = search needs
+enum-known-cell c = omega arith
 
 enum-told-2 : tie.Need-enum-told-2
-enum-told-2 c = search needs
+enum-told-2 c = omega arith
 
 returns-2 : tie.Need-returns-2
 unfolding meant write-of counted
@@ -53,10 +52,10 @@ returns-2 c =
     (sym (past _ _ (λ p. stop _ wrong)), omega arith)
 
 after-requires-3 : tie.Need-after-requires-3
-after-requires-3 c κs = search needs
+after-requires-3 c κs = tt
 
 before-requires : tie.Need-before-requires
-before-requires c κs = search needs
+before-requires c κs = tt
 
 read-bytes-requires : tie.Need-read-bytes-requires
 read-bytes-requires c κs =
@@ -73,13 +72,13 @@ read-bytes-requires c κs =
     omega (arith, ap length place, field-fits 3 s)
 
 enum-known-count : tie.Need-enum-known-count
-enum-known-count c = search needs
+enum-known-count c = omega arith
 
 enum-told-3 : tie.Need-enum-told-3
-enum-told-3 c = search needs
+enum-told-3 c = omega arith
 
 same-length : tie.Need-same-length
-same-length c = search needs
+same-length c = c .before .before .before .buffer .given
 
 returns-3 : tie.Need-returns-3
 unfolding meant write-of counted
@@ -99,7 +98,7 @@ returns-3 c =
     (sym (past _ _ (λ i. past _ _ (λ a. other none _))), omega arith)
 
 same-length-2 : tie.Need-same-length-2
-same-length-2 c = search needs
+same-length-2 c = c .before .before .before .before .buffer .given
 
 returns-4 : tie.Need-returns-4
 unfolding meant counted

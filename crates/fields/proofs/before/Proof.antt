@@ -1,18 +1,17 @@
 -- `before` meets its contract.
 use native.Mathlib.Omega.{arith}
-use borrow.Author.Needs.{needs}
 use Rattle.fields.proofs.Laws.{before-fits, before-part}
 use Rattle.fields.proofs.before.Statement.{statement}
 use Rattle.fields.proofs.before.Tie as tie
 
 find-requires : tie.Need-find-requires
-find-requires c κs = search needs
+find-requires c κs = tt
 
 sub-result : tie.Need-sub-result
-sub-result c = search needs
+sub-result c = omega arith
 
 part-result-start : tie.Need-part-result-start
-part-result-start c = search needs
+part-result-start c = omega arith
 
 part-result-end : tie.Need-part-result-end
 part-result-end c = omega (arith, before-fits (c .before .before .args .s .now))

@@ -3,7 +3,6 @@ use Prim.Native.Nat.{_+_, _-_, _*_, _≤_, _<_}
 use mathlib.Core.Path.{_≡_, refl, _∙_, ap}
 use native.Mathlib.Omega.{arith}
 use lib.ListN.{length, getD, take, length-set}
-use borrow.Author.Needs.{needs}
 use Rattle.protocol.specs.Calls.{filled}
 use Rattle.text.specs.Fields.{decoded}
 use Rattle.fields.proofs.Laws.{pair-at, length-decoded, filled-none, filled-more, filled-all}
@@ -26,7 +25,7 @@ shared-slice-read-digit : tie.Need-shared-slice-read-digit Inv-loop μ-loop
 shared-slice-read-digit c = omega arith
 
 digit-requires : tie.Need-digit-requires Inv-loop μ-loop
-digit-requires c κs = search needs
+digit-requires c κs = tt
 
 mul-digit-2 : tie.Need-mul-digit-2 Inv-loop μ-loop
 mul-digit-2 c = omega arith
@@ -38,7 +37,7 @@ shared-slice-read-digit-2 : tie.Need-shared-slice-read-digit-2 Inv-loop μ-loop
 shared-slice-read-digit-2 c = omega arith
 
 digit-requires-2 : tie.Need-digit-requires-2 Inv-loop μ-loop
-digit-requires-2 c κs = search needs
+digit-requires-2 c κs = tt
 
 mul-out : tie.Need-mul-out Inv-loop μ-loop
 mul-out c =

@@ -1,6 +1,5 @@
 -- `digit` meets its contract: the tests choose as the definition does.
 use native.Mathlib.Omega.{arith}
-use borrow.Author.Needs.{needs}
 use borrow.Author.Tests.{le-leb, lt-leb}
 use Rattle.text.specs.Fields.{digit}
 use Rattle.fields.proofs.digit.Statement.{statement}
@@ -23,7 +22,7 @@ returns-3 c =
     rw (le-leb 48 x (omega arith), lt-leb x 57 (omega arith), lt-leb 65 x (omega arith))
 
 sub-result : tie.Need-sub-result
-sub-result c = search needs
+sub-result c = omega arith
 
 returns-4 : tie.Need-returns-4
 unfolding digit

@@ -1,14 +1,14 @@
 -- `read_bytes` meets its contract.
 use mathlib.Core.Path.{sym, _∙_, ap}
 use borrow.Author.Needs.{needs}
-use Rattle.protocol.proofs.Basics.{if-true, if-false, not-true, not-false}
+use Rattle.boards.proofs.Basics.{if-true, if-false, not-true, not-false}
 use Rattle.text.specs.declared.Bytes.the-variants.{Count}
 use Rattle.fields.proofs.Laws.{length-decoded}
 use Rattle.fields.proofs.read_bytes.Statement.{statement}
 use Rattle.fields.proofs.read_bytes.Tie as tie
 
 pairs-requires : tie.Need-pairs-requires
-pairs-requires c κs = search needs
+pairs-requires c κs = tt
 
 returns : tie.Need-returns
 returns c =

@@ -12,7 +12,7 @@ returns : tie.Need-returns
 returns c = sym (parted-long (c .before .before .args .s .now) (omega arith))
 
 find-requires : tie.Need-find-requires
-find-requires c κs = search needs
+find-requires c κs = tt
 
 returns-2 : tie.Need-returns-2
 returns-2 c =
@@ -28,7 +28,7 @@ shared-slice-read-listed c =
     omega (arith, before-fits (entry .args .s .now))
 
 listed-requires : tie.Need-listed-requires
-listed-requires c κs = search needs
+listed-requires c κs = tt
 
 returns-3 : tie.Need-returns-3
 returns-3 c =

@@ -2,7 +2,6 @@
 use mathlib.Core.Path.{sym}
 use native.Mathlib.Omega.{arith}
 use Rattle.fields.proofs.Laws.{zero-last, zero-comma, zero-leading}
-use borrow.Author.Needs.{needs}
 use Rattle.fields.proofs.zero_alone.Statement.{statement}
 use Rattle.fields.proofs.zero_alone.Tie as tie
 
@@ -12,7 +11,7 @@ returns c =
     sym (zero-last (start .args .s .now) (c .if1 .taken) (start .pre .1))
 
 shared-slice-read-if2 : tie.Need-shared-slice-read-if2
-shared-slice-read-if2 c = search needs
+shared-slice-read-if2 c = omega arith
 
 returns-2 : tie.Need-returns-2
 returns-2 c =

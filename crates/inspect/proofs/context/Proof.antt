@@ -1,22 +1,21 @@
 -- `inspect::context` meets its contract: a refusal answers no bytes, and a board's context lies within the image.
 use native.Mathlib.Omega.{arith}
-use borrow.Author.Needs.{needs}
 use Rattle.layout.proofs.Laws.{geometry, geometry-of}
 use Rattle.inspect.proofs.Laws.{holds, fails, context-disordered, context-beyond, context-within, context-ends}
 use Rattle.inspect.proofs.context.Statement.{statement}
 use Rattle.inspect.proofs.context.Tie as tie
 
 in-order-requires : tie.Need-in-order-requires
-in-order-requires c κs = search needs
+in-order-requires c κs = tt
 
 sub-result : tie.Need-sub-result
-sub-result c = search needs
+sub-result c = omega arith
 
 part-result-start : tie.Need-part-result-start
-part-result-start c = search needs
+part-result-start c = omega arith
 
 part-result-end : tie.Need-part-result-end
-part-result-end c = search needs
+part-result-end c = omega arith
 
 returns : tie.Need-returns
 returns c =
@@ -29,13 +28,13 @@ shape-of-requires c κs =
     (omega arith, g .power)
 
 sub-result-2 : tie.Need-sub-result-2
-sub-result-2 c = search needs
+sub-result-2 c = omega arith
 
 part-result-start-2 : tie.Need-part-result-start-2
-part-result-start-2 c = search needs
+part-result-start-2 c = omega arith
 
 part-result-end-2 : tie.Need-part-result-end-2
-part-result-end-2 c = search needs
+part-result-end-2 c = omega arith
 
 returns-2 : tie.Need-returns-2
 returns-2 c =
@@ -72,10 +71,10 @@ add-end c =
     omega (arith, context-ends _ g (c .checkpoint-at .ensures) (c .before .if2 .left))
 
 sub-result-3 : tie.Need-sub-result-3
-sub-result-3 c = search needs
+sub-result-3 c = omega arith
 
 part-result-start-3 : tie.Need-part-result-start-3
-part-result-start-3 c = search needs
+part-result-start-3 c = omega arith
 
 part-result-end-3 : tie.Need-part-result-end-3
 part-result-end-3 c =

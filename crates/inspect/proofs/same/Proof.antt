@@ -1,20 +1,20 @@
 -- `inspect::same` meets its contract: each test that fails answers, and images of one shape by their areas.
 use mathlib.Core.Path.{_∙_}
 use native.Mathlib.Omega.{arith}
-use borrow.Author.Needs.{needs}
 use Rattle.layout.proofs.Laws.{geometry, geometry-of}
-use Rattle.inspect.proofs.Laws.{holds, fails, same-equal, first-disordered, second-disordered, other-shape, one-shape}
+use Rattle.inspect.proofs.Laws.{holds, fails, same-equal, first-disordered, second-disordered, other-shape}
+use Rattle.inspect.proofs.Laws.{one-shape}
 use Rattle.inspect.proofs.same.Statement.{statement}
 use Rattle.inspect.proofs.same.Tie as tie
 
 in-order-requires : tie.Need-in-order-requires
-in-order-requires c κs = search needs
+in-order-requires c κs = tt
 
 returns : tie.Need-returns
 returns c = first-disordered _ _ (fails (c .before .in-order .ensures) (c .if1 .taken))
 
 in-order-requires-2 : tie.Need-in-order-requires-2
-in-order-requires-2 c κs = search needs
+in-order-requires-2 c κs = tt
 
 returns-2 : tie.Need-returns-2
 returns-2 c =
@@ -35,7 +35,7 @@ shape-of-requires-2 c κs =
     (omega arith, g .power)
 
 same-shape-requires : tie.Need-same-shape-requires
-same-shape-requires c κs = search needs
+same-shape-requires c κs = tt
 
 returns-3 : tie.Need-returns-3
 returns-3 c =

@@ -5,9 +5,9 @@ use mathlib.Core.Bool.{true}
 use native.Mathlib.Omega.{arith}
 use native.Mathlib.Numerals.{add-one}
 use borrow.Author.Tests.{eq-eqb, ne-eqb}
-use Rattle.protocol.specs.Lists.{every}
-use Rattle.protocol.proofs.Basics.{clash, refute, every-at, every-all, true-and}
-use Rattle.inspect.specs.Areas.{same-bytes}
+use Rattle.boards.specs.Lists.{every}
+use Rattle.boards.proofs.Basics.{clash, refute, every-at, every-all, true-and}
+use Rattle.inspect.specs.Same.{same-bytes}
 use Rattle.inspect.proofs.same_bytes.Statement.{statement}
 use Rattle.inspect.proofs.same_bytes.Tie as tie
 

@@ -1,5 +1,4 @@
 -- `layout::allowed` meets its contract: a test that fails breaks a bound, and the tests that hold leave the last one.
-use borrow.Author.Needs.{needs}
 use native.Mathlib.Omega.{arith}
 use Rattle.layout.proofs.Laws.{product, refused, passed}
 use Rattle.layout.proofs.allowed.Statement.{statement}
@@ -12,7 +11,7 @@ returns-2 : tie.Need-returns-2
 returns-2 c = refused (λ b. omega arith)
 
 exponent-requires : tie.Need-exponent-requires
-exponent-requires c κs = search needs
+exponent-requires c κs = tt
 
 returns-3 : tie.Need-returns-3
 returns-3 c = refused (λ b. omega arith)

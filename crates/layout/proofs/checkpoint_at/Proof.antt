@@ -1,5 +1,4 @@
 -- `layout::checkpoint_at` meets its contract, by the bounds of an allowed shape.
-use borrow.Author.Needs.{needs}
 use native.Mathlib.Omega.{arith}
 use Rattle.protocol.specs.Image.{base}
 use Rattle.layout.proofs.Laws.{bounded}
@@ -7,7 +6,7 @@ use Rattle.layout.proofs.checkpoint_at.Statement.{statement}
 use Rattle.layout.proofs.checkpoint_at.Tie as tie
 
 tentative-at-requires : tie.Need-tentative-at-requires
-tentative-at-requires c κs = search needs
+tentative-at-requires c κs = c .pre
 
 mul-result : tie.Need-mul-result
 mul-result c = omega (arith, bounded (c .before .before .pre))

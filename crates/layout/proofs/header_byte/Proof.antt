@@ -3,7 +3,6 @@ use Prim.Native.Nat.{ℕ}
 use mathlib.Core.Path.{_≡_, sym, _∙_, ap}
 use lib.ListN.{getD, drop, List·getD-append, List·getD-eq-default}
 use native.Mathlib.Omega.{arith}
-use borrow.Author.Needs.{needs}
 use Rattle.protocol.specs.Image.{mark, header}
 use Rattle.protocol.specs.declared.Shape.{Shape}
 use Rattle.layout.proofs.Laws.{bounded}
@@ -15,7 +14,7 @@ placed : (s : Shape) {i k : ℕ} → i ≡ k → getD (header s) k 0 ≡ getD (h
 placed s e = ap (λ n. getD (header s) n 0) (sym e)
 
 array-read-result : tie.Need-array-read-result
-array-read-result c = search needs
+array-read-result c = omega arith
 
 returns : tie.Need-returns
 unfolding header mark
@@ -25,10 +24,10 @@ cast-result : tie.Need-cast-result
 cast-result c = omega (arith, bounded (c .before .before .before .pre))
 
 exponent-requires : tie.Need-exponent-requires
-exponent-requires c κs = search needs
+exponent-requires c κs = tt
 
 cast-result-2 : tie.Need-cast-result-2
-cast-result-2 c = search needs
+cast-result-2 c = omega arith
 
 cast-result-3 : tie.Need-cast-result-3
 cast-result-3 c = omega (arith, bounded (c .before .before .before .pre))

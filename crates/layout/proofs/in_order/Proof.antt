@@ -4,7 +4,7 @@ use native.Mathlib.Omega.{arith}
 use borrow.Author.Needs.{needs}
 use borrow.Author.Tests.{not-true, not-false}
 use Rattle.protocol.specs.Image.{allowed, total}
-use Rattle.protocol.proofs.Basics.{clash}
+use Rattle.boards.proofs.Basics.{clash}
 use Rattle.protocol.proofs.Bridge.{in-order-sound}
 use Rattle.layout.proofs.Laws.{disordered}
 use Rattle.layout.proofs.in_order.Statement.{statement}
@@ -22,7 +22,7 @@ returns-2 c =
     disordered (λ g. clash (g .sound .marked) fails)
 
 shared-slice-read-if3 : tie.Need-shared-slice-read-if3
-shared-slice-read-if3 c = search needs
+shared-slice-read-if3 c = omega arith
 
 returns-3 : tie.Need-returns-3
 returns-3 c = disordered (λ g. omega arith)
@@ -31,7 +31,7 @@ shape-of-requires : tie.Need-shape-of-requires
 shape-of-requires c κs = search needs
 
 allowed-requires : tie.Need-allowed-requires
-allowed-requires c κs = search needs
+allowed-requires c κs = tt
 
 returns-4 : tie.Need-returns-4
 returns-4 c =
@@ -45,7 +45,7 @@ returns-5 : tie.Need-returns-5
 returns-5 c = disordered (λ g. omega (arith, ap total (c .before .before .before .before .shape-of .ensures)))
 
 shared-slice-read-result : tie.Need-shared-slice-read-result
-shared-slice-read-result c = search needs
+shared-slice-read-result c = omega arith
 
 returns-6 : tie.Need-returns-6
 returns-6 c =

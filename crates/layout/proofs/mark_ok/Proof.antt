@@ -6,9 +6,9 @@ use lib.Dec.{eqb}
 use native.Mathlib.Omega.{arith}
 use native.Mathlib.Numerals.{add-one}
 use borrow.Author.Tests.{eq-eqb, ne-eqb}
-use Rattle.protocol.specs.Lists.{every}
+use Rattle.boards.specs.Lists.{every}
 use Rattle.protocol.specs.Image.{mark, byte}
-use Rattle.protocol.proofs.Basics.{clash, refute, every-at, every-all, true-and}
+use Rattle.boards.proofs.Basics.{clash, refute, every-at, every-all, true-and}
 use Rattle.layout.proofs.mark_ok.Statement.{statement}
 use Rattle.layout.proofs.mark_ok.Tie as tie
 

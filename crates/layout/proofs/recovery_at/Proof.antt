@@ -1,5 +1,4 @@
 -- `layout::recovery_at` meets its contract, by the bounds of an allowed shape.
-use borrow.Author.Needs.{needs}
 use native.Mathlib.Omega.{arith}
 use Rattle.protocol.specs.Image.{base}
 use Rattle.layout.proofs.Laws.{bounded}
@@ -7,7 +6,7 @@ use Rattle.layout.proofs.recovery_at.Statement.{statement}
 use Rattle.layout.proofs.recovery_at.Tie as tie
 
 current-at-requires : tie.Need-current-at-requires
-current-at-requires c κs = search needs
+current-at-requires c κs = c .pre
 
 mul-result : tie.Need-mul-result
 mul-result c = omega (arith, bounded (c .before .before .pre))

@@ -1,5 +1,4 @@
 -- `layout::total` meets its contract, by the bounds of an allowed shape.
-use borrow.Author.Needs.{needs}
 use native.Mathlib.Omega.{arith}
 use Rattle.protocol.specs.Image.{base, total}
 use Rattle.layout.proofs.Laws.{bounded}
@@ -7,7 +6,7 @@ use Rattle.layout.proofs.total.Statement.{statement}
 use Rattle.layout.proofs.total.Tie as tie
 
 checkpoint-at-requires : tie.Need-checkpoint-at-requires
-checkpoint-at-requires c κs = search needs
+checkpoint-at-requires c κs = c .pre
 
 mul-result : tie.Need-mul-result
 mul-result c = omega (arith, bounded (c .before .before .pre))

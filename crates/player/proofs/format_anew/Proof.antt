@@ -1,32 +1,33 @@
 -- `format_anew` meets its contract.
-use Rattle.player.proofs.Turning.{formatted-anew}
+use Rattle.turns.proofs.Turning.{formatted-anew}
+use native.Mathlib.Omega.{arith}
 use borrow.Author.Needs.{needs}
 use Rattle.player.proofs.format_anew.Statement.{statement}
 use Rattle.player.proofs.format_anew.Tie as tie
 
 sub-clear : tie.Need-sub-clear
-sub-clear c = search needs
+sub-clear c = omega arith
 
 part-clear-start : tie.Need-part-clear-start
-part-clear-start c = search needs
+part-clear-start c = omega arith
 
 part-clear-end : tie.Need-part-clear-end
-part-clear-end c = search needs
+part-clear-end c = omega arith
 
 clear-requires : tie.Need-clear-requires
-clear-requires c κs = search needs
+clear-requires c κs = tt
 
 sub-format : tie.Need-sub-format
-sub-format c = search needs
+sub-format c = omega arith
 
 part-format-start : tie.Need-part-format-start
-part-format-start c = search needs
+part-format-start c = omega arith
 
 part-format-end : tie.Need-part-format-end
-part-format-end c = search needs
+part-format-end c = omega arith
 
 format-requires : tie.Need-format-requires
-format-requires c κs = search needs
+format-requires c κs = tt
 
 same-length : tie.Need-same-length
 same-length c = search needs

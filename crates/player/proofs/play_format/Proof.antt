@@ -2,37 +2,37 @@
 use mathlib.Core.Path.{sym, _∙_}
 use native.Mathlib.Omega.{arith}
 use lib.ListN.{take, replicate}
-use Rattle.protocol.proofs.Basics.{not-true, not-false}
+use Rattle.boards.proofs.Basics.{not-true, not-false}
 use Rattle.layout.proofs.Laws.{bounded}
 use Rattle.text.specs.Turns.{play}
-use Rattle.player.proofs.Turning.{formatted, formatted-lent}
+use Rattle.turns.proofs.Turning.{formatted, formatted-lent}
 use borrow.Author.Needs.{needs}
 use Rattle.player.proofs.play_format.Statement.{statement}
 use Rattle.player.proofs.play_format.Tie as tie
 
 allowed-requires : tie.Need-allowed-requires
-allowed-requires c κs = search needs
+allowed-requires c κs = tt
 
 sub-format : tie.Need-sub-format
-sub-format c = search needs
+sub-format c = omega arith
 
 part-format-start : tie.Need-part-format-start
-part-format-start c = search needs
+part-format-start c = omega arith
 
 part-format-end : tie.Need-part-format-end
-part-format-end c = search needs
+part-format-end c = omega arith
 
 format-requires : tie.Need-format-requires
-format-requires c κs = search needs
+format-requires c κs = tt
 
 sub-end-turn : tie.Need-sub-end-turn
-sub-end-turn c = search needs
+sub-end-turn c = omega arith
 
 part-end-turn-start : tie.Need-part-end-turn-start
-part-end-turn-start c = search needs
+part-end-turn-start c = omega arith
 
 part-end-turn-end : tie.Need-part-end-turn-end
-part-end-turn-end c = search needs
+part-end-turn-end c = omega arith
 
 end-turn-requires : tie.Need-end-turn-requires
 end-turn-requires c κs = search needs
@@ -41,7 +41,7 @@ same-length : tie.Need-same-length
 same-length c = search needs
 
 same-length-2 : tie.Need-same-length-2
-same-length-2 c = search needs
+same-length-2 c = c .before .out .given
 
 returns : tie.Need-returns
 unfolding play
@@ -69,13 +69,13 @@ format-anew-requires c κs =
     omega (arith, sized .total .ensures, bounded fine .most-total, other .before .before .before .before .before .before .pre .room)
 
 sub-end-turn-2 : tie.Need-sub-end-turn-2
-sub-end-turn-2 c = search needs
+sub-end-turn-2 c = omega arith
 
 part-end-turn-start-2 : tie.Need-part-end-turn-start-2
-part-end-turn-start-2 c = search needs
+part-end-turn-start-2 c = omega arith
 
 part-end-turn-end-2 : tie.Need-part-end-turn-end-2
-part-end-turn-end-2 c = search needs
+part-end-turn-end-2 c = omega arith
 
 end-turn-requires-2 : tie.Need-end-turn-requires-2
 end-turn-requires-2 c κs =
@@ -88,7 +88,7 @@ same-length-3 : tie.Need-same-length-3
 same-length-3 c = search needs
 
 same-length-4 : tie.Need-same-length-4
-same-length-4 c = search needs
+same-length-4 c = c .before .out2 .given
 
 returns-2 : tie.Need-returns-2
 unfolding play

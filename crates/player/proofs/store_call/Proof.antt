@@ -1,43 +1,42 @@
 -- `store_call` meets its contract: the tests of the letter in turn.
 use borrow.Author.Tests.{eq-eqb, ne-eqb}
-use Rattle.player.specs.Turned.{call-of}
-use borrow.Author.Needs.{needs}
+use Rattle.player.specs.Requests.{request-of}
 use Rattle.player.proofs.store_call.Statement.{statement}
 use Rattle.player.proofs.store_call.Tie as tie
 
 write-requires : tie.Need-write-requires
-write-requires c κs = search needs
+write-requires c κs = tt
 
 same-length : tie.Need-same-length
-same-length c = search needs
+same-length c = c .before .image .given
 
 returns : tie.Need-returns
-unfolding call-of
+unfolding request-of
 returns c =
     let made = c .before .before in
     rw (eq-eqb _ _ (made .before .before .if1 .taken)) (made .write .ensures)
 
 start-requires : tie.Need-start-requires
-start-requires c κs = search needs
+start-requires c κs = tt
 
 same-length-2 : tie.Need-same-length-2
-same-length-2 c = search needs
+same-length-2 c = c .before .image2 .given
 
 returns-2 : tie.Need-returns-2
-unfolding call-of
+unfolding request-of
 returns-2 c =
     let made = c .before .before in
     let second = made .before .before in
     rw (ne-eqb _ _ (second .before .if1 .left), eq-eqb _ _ (second .if2 .taken)) (made .start .ensures)
 
 acknowledge-requires : tie.Need-acknowledge-requires
-acknowledge-requires c κs = search needs
+acknowledge-requires c κs = tt
 
 same-length-3 : tie.Need-same-length-3
-same-length-3 c = search needs
+same-length-3 c = c .before .image3 .given
 
 returns-3 : tie.Need-returns-3
-unfolding call-of
+unfolding request-of
 returns-3 c =
     let made = c .before .before in
     let third = made .before .before in
@@ -46,13 +45,13 @@ returns-3 c =
     (made .acknowledge .ensures)
 
 fault-requires : tie.Need-fault-requires
-fault-requires c κs = search needs
+fault-requires c κs = tt
 
 same-length-4 : tie.Need-same-length-4
-same-length-4 c = search needs
+same-length-4 c = c .before .image4 .given
 
 returns-4 : tie.Need-returns-4
-unfolding call-of
+unfolding request-of
 returns-4 c =
     let made = c .before .before in
     let fourth = made .before .before in
@@ -66,13 +65,13 @@ returns-4 c =
     ) (made .fault .ensures)
 
 power-up-requires : tie.Need-power-up-requires
-power-up-requires c κs = search needs
+power-up-requires c κs = tt
 
 same-length-5 : tie.Need-same-length-5
-same-length-5 c = search needs
+same-length-5 c = c .before .image5 .given
 
 returns-5 : tie.Need-returns-5
-unfolding call-of
+unfolding request-of
 returns-5 c =
     let made = c .before .before in
     let fourth = made .before .before in

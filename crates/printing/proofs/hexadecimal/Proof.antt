@@ -1,21 +1,21 @@
 -- `hexadecimal` meets its contract.
-use borrow.Author.Needs.{needs}
+use native.Mathlib.Omega.{arith}
 use mathlib.Core.Path.{sym}
 use borrow.Author.Tests.{lt-ltb, le-ltb}
-use Rattle.protocol.proofs.Basics.{if-true, if-false}
+use Rattle.boards.proofs.Basics.{if-true, if-false}
 use Rattle.text.specs.Rows.{hexadecimal}
 use Rattle.printing.proofs.hexadecimal.Statement.{statement}
 use Rattle.printing.proofs.hexadecimal.Tie as tie
 
 add-result : tie.Need-add-result
-add-result c = search needs
+add-result c = omega arith
 
 returns : tie.Need-returns
 unfolding hexadecimal
 returns c = sym (if-true _ _ (lt-ltb _ _ (c .if1 .taken)))
 
 add-result-2 : tie.Need-add-result-2
-add-result-2 c = search needs
+add-result-2 c = omega arith
 
 returns-2 : tie.Need-returns-2
 unfolding hexadecimal

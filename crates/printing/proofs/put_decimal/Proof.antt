@@ -28,10 +28,10 @@ put-digit-requires-4 c κs =
     (omega (arith, length-digit-at 10000 n, length-digit-at 1000 n, length-digit-at 100 n), omega arith)
 
 cast-digit : tie.Need-cast-digit
-cast-digit c = search needs
+cast-digit c = omega arith
 
 add-put : tie.Need-add-put
-add-put c = search needs
+add-put c = omega arith
 
 put-requires : tie.Need-put-requires
 put-requires c κs =

@@ -1,5 +1,4 @@
 -- `put_digit` meets its contract: no character, or one.
-use borrow.Author.Needs.{needs}
 use native.Mathlib.Omega.{arith}
 use Rattle.printing.proofs.Laws.{appends-none, digit-none, digit-some}
 use Rattle.printing.proofs.put_digit.Statement.{statement}
@@ -9,19 +8,19 @@ returns : tie.Need-returns
 returns c = rw (digit-none _ _ (c .if1 .taken)) (appends-none _ _ (omega arith))
 
 div-digit : tie.Need-div-digit
-div-digit c = search needs
+div-digit c = omega arith
 
 cast-digit : tie.Need-cast-digit
-cast-digit c = search needs
+cast-digit c = omega arith
 
 add-put : tie.Need-add-put
-add-put c = search needs
+add-put c = omega arith
 
 put-requires : tie.Need-put-requires
-put-requires c κs = search needs
+put-requires c κs = c .before .before .before .pre .0
 
 same-length : tie.Need-same-length
-same-length c = search needs
+same-length c = c .before .out .given
 
 returns-2 : tie.Need-returns-2
 returns-2 c =

@@ -1,4 +1,5 @@
 -- `put_group` meets its contract: the high byte, then the low one.
+use mathlib.Core.Path.{_∙_}
 use borrow.Author.Needs.{needs}
 use native.Mathlib.Omega.{arith}
 use Rattle.text.specs.Rows.{byte-text, group-text}
@@ -7,10 +8,10 @@ use Rattle.printing.proofs.put_group.Statement.{statement}
 use Rattle.printing.proofs.put_group.Tie as tie
 
 cast-high : tie.Need-cast-high
-cast-high c = search needs
+cast-high c = omega arith
 
 cast-low : tie.Need-cast-low
-cast-low c = search needs
+cast-low c = omega arith
 
 put-byte-requires : tie.Need-put-byte-requires
 put-byte-requires c κs = search needs
@@ -20,7 +21,7 @@ unfolding byte-text
 put-byte-requires-2 c κs = omega arith
 
 same-length : tie.Need-same-length
-same-length c = search needs
+same-length c = c .before .out2 .given ∙ c .before .before .before .before .before .out .given
 
 returns : tie.Need-returns
 unfolding group-text

@@ -2,7 +2,7 @@
 use borrow.Author.Needs.{needs}
 use mathlib.Core.Path.{_≡_, sym, _∙_}
 use mathlib.Core.Logic.{⊎-elim}
-use Rattle.protocol.proofs.Basics.{if-true, if-false}
+use Rattle.boards.proofs.Basics.{if-true, if-false}
 use Rattle.text.specs.Rows.{flag-text}
 use Rattle.printing.specs.Parts.{middle-text}
 use Rattle.printing.proofs.Laws.{appends-then}
@@ -16,7 +16,7 @@ put-group-requires : tie.Need-put-group-requires
 put-group-requires c κs = search needs
 
 same-length : tie.Need-same-length
-same-length c = search needs
+same-length c = c .before .out2 .given ∙ c .before .before .before .before .before .out .given
 
 returns : tie.Need-returns
 unfolding middle-text flag-text

@@ -1,7 +1,6 @@
 -- `bad_decision` meets its contract: byte 9, then the group that bytes 10 and 11 name.
 use Prim.Native.Nat.{_≤_}
 use mathlib.Core.Path.{sym, _∙_}
-use borrow.Author.Needs.{needs}
 use native.Mathlib.Omega.{arith}
 use denote.Ref.{now}
 use Rattle.protocol.specs.Image.{total}
@@ -36,7 +35,7 @@ cast-beyond c =
     omega (arith, bounded (start .pre .0) .limits .most-boards)
 
 beyond-requires : tie.Need-beyond-requires
-beyond-requires c κs = search needs
+beyond-requires c κs = tt
 
 returns-3 : tie.Need-returns-3
 returns-3 c =

@@ -5,7 +5,7 @@ use mathlib.Core.Bool.{false}
 use native.Mathlib.Omega.{arith}
 use lib.Dec.{ltb}
 use denote.Ref.{now}
-use Rattle.protocol.specs.Lists.{any}
+use Rattle.boards.specs.Lists.{any}
 use Rattle.protocol.specs.Image.{Tags, view, total}
 use Rattle.protocol.specs.Calls.{bad-tags}
 use Rattle.layout.proofs.Laws.{bounded}

@@ -1,5 +1,4 @@
 -- `complete_first` completes the stored group's commit if byte 9 is 1.
-use borrow.Author.Needs.{needs}
 use native.Mathlib.Omega.{arith}
 use Rattle.protocol.specs.Image.{total}
 use Rattle.recovery.proofs.Laws.{none-first, some-first}
@@ -18,10 +17,10 @@ unfolding total
 stored-group-requires c κs = omega arith
 
 complete-requires : tie.Need-complete-requires
-complete-requires c κs = search needs
+complete-requires c κs = c .before .before .before .before .before .before .pre
 
 same-length : tie.Need-same-length
-same-length c = search needs
+same-length c = c .before .image .given
 
 returns-2 : tie.Need-returns-2
 returns-2 c =

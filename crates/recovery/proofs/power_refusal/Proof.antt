@@ -1,16 +1,15 @@
 -- `power_refusal` meets its contract: the three tests in their order.
 use mathlib.Core.Path.{sym, _∙_, ap}
-use borrow.Author.Needs.{needs}
 use native.Mathlib.Omega.{arith}
 use denote.Ref.{now}
-use Rattle.protocol.proofs.Basics.{not-true, not-false}
+use Rattle.boards.proofs.Basics.{not-true, not-false}
 use Rattle.layout.proofs.Laws.{geometry, geometry-of}
 use Rattle.recovery.proofs.Calls.{power-disordered, power-tags, power-decision, power-taken}
 use Rattle.recovery.proofs.power_refusal.Statement.{statement}
 use Rattle.recovery.proofs.power_refusal.Tie as tie
 
 in-order-requires : tie.Need-in-order-requires
-in-order-requires c κs = search needs
+in-order-requires c κs = tt
 
 returns : tie.Need-returns
 returns c =

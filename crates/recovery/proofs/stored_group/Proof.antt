@@ -1,17 +1,16 @@
 -- `stored_group` reads bytes 10 and 11.
-use borrow.Author.Needs.{needs}
 use native.Mathlib.Omega.{arith}
 use Rattle.recovery.proofs.stored_group.Statement.{statement}
 use Rattle.recovery.proofs.stored_group.Tie as tie
 
 shared-slice-read-result : tie.Need-shared-slice-read-result
-shared-slice-read-result c = search needs
+shared-slice-read-result c = omega arith
 
 cast-result : tie.Need-cast-result
 cast-result c = omega (arith, c .shared-slice-known .given 10)
 
 shared-slice-read-result-2 : tie.Need-shared-slice-read-result-2
-shared-slice-read-result-2 c = search needs
+shared-slice-read-result-2 c = omega arith
 
 cast-result-2 : tie.Need-cast-result-2
 cast-result-2 c = omega (arith, c .shared-slice-known2 .given 11)
@@ -23,7 +22,7 @@ add-result : tie.Need-add-result
 add-result c = omega (arith, c .shared-slice-known2 .given 10, c .shared-slice-known2 .given 11)
 
 returns : tie.Need-returns
-returns c = search needs
+returns c = omega arith
 
 pub stored-group-spec : {M : Type 1} → statement M
 stored-group-spec =

@@ -1,6 +1,7 @@
 -- `append` stays within the path, and ends.
 use Prim.Native.Nat.{_-_, _≤_}
 use mathlib.Core.Path.{_≡_}
+use native.Mathlib.Omega.{arith}
 use borrow.Author.Needs.{needs}
 use lib.ListN.{length}
 use Rattle.replay.proofs.append.Statement.{statement}
@@ -13,22 +14,22 @@ abbrev μ-loop : tie.MeasureT-loop
 μ-loop path₀ at bytes i₀ path i = length bytes - i
 
 loop-holds : tie.Need-loop-holds Inv-loop μ-loop
-loop-holds c = search needs
+loop-holds c = omega arith
 
 shared-slice-read-byte : tie.Need-shared-slice-read-byte Inv-loop μ-loop
-shared-slice-read-byte c = search needs
+shared-slice-read-byte c = omega arith
 
 add-path : tie.Need-add-path Inv-loop μ-loop
-add-path c = search needs
+add-path c = omega arith
 
 slice-write-path : tie.Need-slice-write-path Inv-loop μ-loop
-slice-write-path c = search needs
+slice-write-path c = omega arith
 
 add-i : tie.Need-add-i Inv-loop μ-loop
-add-i c = search needs
+add-i c = omega arith
 
 loop-less : tie.Need-loop-less Inv-loop μ-loop
-loop-less c = search needs
+loop-less c = omega arith
 
 loop-again : tie.Need-loop-again Inv-loop μ-loop
 loop-again c = search needs
@@ -37,7 +38,7 @@ same-length : tie.Need-same-length Inv-loop μ-loop
 same-length c = search needs
 
 returns : tie.Need-returns Inv-loop μ-loop
-returns c = search needs
+returns c = omega arith
 
 pub append-spec : {M : Type 1} → statement M
 append-spec =

@@ -1,6 +1,7 @@
 -- `read_all` stays within the buffer, and ends: each turn reads something, or is the last.
 use Prim.Native.Nat.{_-_, _≤_}
 use mathlib.Core.Path.{_≡_}
+use native.Mathlib.Omega.{arith}
 use borrow.Author.Needs.{needs}
 use lib.ListN.{length}
 use Rattle.replay.proofs.read_all.Statement.{statement}
@@ -13,58 +14,58 @@ abbrev μ-loop : tie.MeasureT-loop
 μ-loop fd text₀ n₀ text n = length text - n
 
 loop-holds : tie.Need-loop-holds Inv-loop μ-loop
-loop-holds c = search needs
+loop-holds c = omega arith
 
 sub-read : tie.Need-sub-read Inv-loop μ-loop
-sub-read c = search needs
+sub-read c = omega arith
 
 part-read-start : tie.Need-part-read-start Inv-loop μ-loop
-part-read-start c = search needs
+part-read-start c = omega arith
 
 part-read-end : tie.Need-part-read-end Inv-loop μ-loop
-part-read-end c = search needs
+part-read-end c = omega arith
 
 read-requires : tie.Need-read-requires Inv-loop μ-loop
-read-requires c κs = search needs
+read-requires c κs = tt
 
 same-length : tie.Need-same-length Inv-loop μ-loop
 same-length c = search needs
 
 returns : tie.Need-returns Inv-loop μ-loop
-returns c = search needs
+returns c = omega arith
 
 sub-count : tie.Need-sub-count Inv-loop μ-loop
-sub-count c = search needs
+sub-count c = omega arith
 
 part-count-start : tie.Need-part-count-start Inv-loop μ-loop
-part-count-start c = search needs
+part-count-start c = omega arith
 
 part-count-end : tie.Need-part-count-end Inv-loop μ-loop
-part-count-end c = search needs
+part-count-end c = omega arith
 
 count-requires : tie.Need-count-requires Inv-loop μ-loop
-count-requires c κs = search needs
+count-requires c κs = tt
 
 same-length-2 : tie.Need-same-length-2 Inv-loop μ-loop
 same-length-2 c = search needs
 
 returns-2 : tie.Need-returns-2 Inv-loop μ-loop
-returns-2 c = search needs
+returns-2 c = omega arith
 
 add-n : tie.Need-add-n Inv-loop μ-loop
-add-n c = search needs
+add-n c = omega arith
 
 loop-less : tie.Need-loop-less Inv-loop μ-loop
-loop-less c = search needs
+loop-less c = omega arith
 
 loop-again : tie.Need-loop-again Inv-loop μ-loop
-loop-again c = search needs
+loop-again c = omega arith
 
 same-length-3 : tie.Need-same-length-3 Inv-loop μ-loop
 same-length-3 c = search needs
 
 returns-3 : tie.Need-returns-3 Inv-loop μ-loop
-returns-3 c = search needs
+returns-3 c = omega arith
 
 pub read-all-spec : {M : Type 1} → statement M
 read-all-spec =

@@ -1,6 +1,7 @@
 -- `replay_all` ends: it takes a turn for each argument.
 use Prim.Native.Nat.{_-_, _≤_}
 use mathlib.Core.Path.{_≡_}
+use native.Mathlib.Omega.{arith}
 use borrow.Author.Needs.{needs}
 use lib.ListN.{length}
 use Rattle.replay.proofs.replay_all.Statement.{statement}
@@ -15,31 +16,31 @@ abbrev μ-loop : tie.MeasureT-loop
 μ-loop path₀ events₀ answers₀ area₀ out₀ count differ₀ i₀ path events answers area out differ i = count - i
 
 arg-count-requires : tie.Need-arg-count-requires Inv-loop μ-loop
-arg-count-requires c κs = search needs
+arg-count-requires c κs = tt
 
 loop-holds : tie.Need-loop-holds Inv-loop μ-loop
-loop-holds c = search needs
+loop-holds c = omega arith
 
 replay-requires : tie.Need-replay-requires Inv-loop μ-loop
 replay-requires c κs = search needs
 
 add-differ : tie.Need-add-differ Inv-loop μ-loop
-add-differ c = search needs
+add-differ c = omega arith
 
 add-i : tie.Need-add-i Inv-loop μ-loop
-add-i c = search needs
+add-i c = omega arith
 
 loop-less : tie.Need-loop-less Inv-loop μ-loop
-loop-less c = search needs
+loop-less c = omega arith
 
 loop-again : tie.Need-loop-again Inv-loop μ-loop
-loop-again c = search needs
+loop-again c = omega arith
 
 sub-report-all : tie.Need-sub-report-all Inv-loop μ-loop
-sub-report-all c = search needs
+sub-report-all c = omega arith
 
 report-all-requires : tie.Need-report-all-requires Inv-loop μ-loop
-report-all-requires c κs = search needs
+report-all-requires c κs = tt
 
 same-length : tie.Need-same-length Inv-loop μ-loop
 same-length c = search needs
@@ -57,7 +58,7 @@ same-length-5 : tie.Need-same-length-5 Inv-loop μ-loop
 same-length-5 c = search needs
 
 returns : tie.Need-returns Inv-loop μ-loop
-returns c = search needs
+returns c = omega arith
 
 pub replay-all-spec : {M : Type 1} → statement M
 replay-all-spec =

@@ -4,7 +4,7 @@ use mathlib.Core.Path.{_≡_, refl}
 use native.Mathlib.Omega.{arith}
 use borrow.Author.Needs.{needs}
 use lib.ListN.{length, drop}
-use Rattle.player.proofs.Laws.{take-most}
+use Rattle.turns.proofs.Laws.{take-most}
 use Rattle.rsmrun.proofs.drain.Statement.{statement}
 use Rattle.rsmrun.proofs.drain.Tie as tie
 
@@ -16,31 +16,31 @@ abbrev μ-loop : tie.MeasureT-loop
 μ-loop input area₀ out₀ now₀ read₀ area out now read = length input - read
 
 loop-holds : tie.Need-loop-holds Inv-loop μ-loop
-loop-holds c = search needs
+loop-holds c = omega arith
 
 sub-play-lines : tie.Need-sub-play-lines Inv-loop μ-loop
-sub-play-lines c = search needs
+sub-play-lines c = omega arith
 
 part-play-lines-start : tie.Need-part-play-lines-start Inv-loop μ-loop
-part-play-lines-start c = search needs
+part-play-lines-start c = omega arith
 
 part-play-lines-end : tie.Need-part-play-lines-end Inv-loop μ-loop
-part-play-lines-end c = search needs
+part-play-lines-end c = omega arith
 
 play-lines-requires : tie.Need-play-lines-requires Inv-loop μ-loop
 play-lines-requires c κs = search needs
 
 sub-write-all : tie.Need-sub-write-all Inv-loop μ-loop
-sub-write-all c = search needs
+sub-write-all c = omega arith
 
 part-write-all-start : tie.Need-part-write-all-start Inv-loop μ-loop
-part-write-all-start c = search needs
+part-write-all-start c = omega arith
 
 part-write-all-end : tie.Need-part-write-all-end Inv-loop μ-loop
-part-write-all-end c = search needs
+part-write-all-end c = omega arith
 
 write-all-requires : tie.Need-write-all-requires Inv-loop μ-loop
-write-all-requires c κs = search needs
+write-all-requires c κs = tt
 
 same-length : tie.Need-same-length Inv-loop μ-loop
 same-length c = search needs
@@ -49,7 +49,7 @@ same-length-2 : tie.Need-same-length-2 Inv-loop μ-loop
 same-length-2 c = search needs
 
 returns : tie.Need-returns Inv-loop μ-loop
-returns c = search needs
+returns c = omega arith
 
 add-read : tie.Need-add-read Inv-loop μ-loop
 add-read c =
@@ -60,10 +60,10 @@ add-read c =
     omega (arith, played .play-lines .ensures .read, rest)
 
 loop-less : tie.Need-loop-less Inv-loop μ-loop
-loop-less c = search needs
+loop-less c = omega arith
 
 loop-again : tie.Need-loop-again Inv-loop μ-loop
-loop-again c = search needs
+loop-again c = omega arith
 
 pub drain-spec : {M : Type 1} → statement M
 drain-spec =

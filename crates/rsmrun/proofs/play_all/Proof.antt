@@ -16,22 +16,22 @@ abbrev μ-loop : tie.MeasureT-loop
 μ-loop input₀ area₀ out₀ run₀ held₀ turns₀ input area out run held turns = turns
 
 new-requires : tie.Need-new-requires Inv-loop μ-loop
-new-requires c κs = search needs
+new-requires c κs = tt
 
 loop-holds : tie.Need-loop-holds Inv-loop μ-loop
-loop-holds c = search needs
+loop-holds c = omega arith
 
 fill-requires : tie.Need-fill-requires Inv-loop μ-loop
 fill-requires c κs = search needs
 
 sub-finish : tie.Need-sub-finish Inv-loop μ-loop
-sub-finish c = search needs
+sub-finish c = omega arith
 
 part-finish-start : tie.Need-part-finish-start Inv-loop μ-loop
-part-finish-start c = search needs
+part-finish-start c = omega arith
 
 part-finish-end : tie.Need-part-finish-end Inv-loop μ-loop
-part-finish-end c = search needs
+part-finish-end c = omega arith
 
 finish-requires : tie.Need-finish-requires Inv-loop μ-loop
 finish-requires c κs = search needs
@@ -46,16 +46,16 @@ same-length-3 : tie.Need-same-length-3 Inv-loop μ-loop
 same-length-3 c = search needs
 
 returns : tie.Need-returns Inv-loop μ-loop
-returns c = search needs
+returns c = omega arith
 
 sub-drain : tie.Need-sub-drain Inv-loop μ-loop
-sub-drain c = search needs
+sub-drain c = omega arith
 
 part-drain-start : tie.Need-part-drain-start Inv-loop μ-loop
-part-drain-start c = search needs
+part-drain-start c = omega arith
 
 part-drain-end : tie.Need-part-drain-end Inv-loop μ-loop
-part-drain-end c = search needs
+part-drain-end c = omega arith
 
 drain-requires : tie.Need-drain-requires Inv-loop μ-loop
 drain-requires c κs = search needs
@@ -73,16 +73,16 @@ same-length-6 : tie.Need-same-length-6 Inv-loop μ-loop
 same-length-6 c = search needs
 
 returns-2 : tie.Need-returns-2 Inv-loop μ-loop
-returns-2 c = search needs
+returns-2 c = omega arith
 
 sub-turns : tie.Need-sub-turns Inv-loop μ-loop
-sub-turns c = search needs
+sub-turns c = omega arith
 
 loop-less : tie.Need-loop-less Inv-loop μ-loop
-loop-less c = search needs
+loop-less c = omega arith
 
 loop-again : tie.Need-loop-again Inv-loop μ-loop
-loop-again c = search needs
+loop-again c = omega arith
 
 same-length-7 : tie.Need-same-length-7 Inv-loop μ-loop
 same-length-7 c = search needs
@@ -94,7 +94,7 @@ same-length-9 : tie.Need-same-length-9 Inv-loop μ-loop
 same-length-9 c = search needs
 
 returns-3 : tie.Need-returns-3 Inv-loop μ-loop
-returns-3 c = search needs
+returns-3 c = omega arith
 
 pub play-all-spec : {M : Type 1} → statement M
 play-all-spec =

@@ -10,13 +10,13 @@ use Rattle.runner.proofs.keep.Statement.{statement}
 use Rattle.runner.proofs.keep.Tie as tie
 
 sub-rest : tie.Need-sub-rest
-sub-rest c = search needs
+sub-rest c = omega arith
 
 move-down-requires : tie.Need-move-down-requires
 move-down-requires c κs = search needs
 
 same-length : tie.Need-same-length
-same-length c = search needs
+same-length c = c .before .buffer .given
 
 returns : tie.Need-returns
 returns c =
@@ -30,7 +30,7 @@ move-down-requires-2 : tie.Need-move-down-requires-2
 move-down-requires-2 c κs = search needs
 
 same-length-2 : tie.Need-same-length-2
-same-length-2 c = search needs
+same-length-2 c = c .before .buffer2 .given
 
 returns-2 : tie.Need-returns-2
 returns-2 c =

@@ -21,16 +21,16 @@ returns-2 c =
     (omega arith, λ u. exhausted w (lines (now (args .rest))) (c .if2 .taken))
 
 slice-aggregate-play-line : tie.Need-slice-aggregate-play-line
-slice-aggregate-play-line c = search needs
+slice-aggregate-play-line c = omega arith
 
 play-line-requires : tie.Need-play-line-requires
 play-line-requires c κs = search needs
 
 same-length : tie.Need-same-length
-same-length c = search needs
+same-length c = c .before .before .before .before .area .given
 
 same-length-2 : tie.Need-same-length-2
-same-length-2 c = search needs
+same-length-2 c = c .before .out .given
 
 returns-3 : tie.Need-returns-3
 returns-3 c =

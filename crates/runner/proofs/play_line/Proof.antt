@@ -1,27 +1,28 @@
 -- `play_line` meets its contract: the line is taken apart and played.
 use denote.Ref.{now}
 use Rattle.runner.proofs.Pieces.{stepped}
+use native.Mathlib.Omega.{arith}
 use borrow.Author.Needs.{needs}
 use Rattle.runner.proofs.play_line.Statement.{statement}
 use Rattle.runner.proofs.play_line.Tie as tie
 
 take-apart-requires : tie.Need-take-apart-requires
-take-apart-requires c κs = search needs
+take-apart-requires c κs = c .before .before .before .before .before .pre .2
 
 add-number : tie.Need-add-number
-add-number c = search needs
+add-number c = omega arith
 
 play-requires : tie.Need-play-requires
 play-requires c κs = search needs
 
 same-length : tie.Need-same-length
-same-length c = search needs
+same-length c = c .before .before .before .before .area .given
 
 same-length-2 : tie.Need-same-length-2
-same-length-2 c = search needs
+same-length-2 c = c .before .before .before .before .before .before .before .before .before .before .before .before .buffer .given
 
 same-length-3 : tie.Need-same-length-3
-same-length-3 c = search needs
+same-length-3 c = c .before .before .out .given
 
 returns : tie.Need-returns
 returns c =

@@ -6,8 +6,8 @@ use borrow.Author.Needs.{needs}
 use lib.ListN.{length, take, drop}
 use Rattle.fields.proofs.Laws.{until-fits}
 use Rattle.text.specs.Whole.{Run as Whole, next-run}
-use Rattle.player.specs.Turned.{area-size}
-use Rattle.player.proofs.Laws.{take-most}
+use Rattle.turns.specs.Turned.{area-size}
+use Rattle.turns.proofs.Laws.{take-most}
 use Rattle.runner.specs.Pieces.{run-of, Output}
 use Rattle.runner.proofs.Pieces.{progressed}
 use Rattle.runner.proofs.play_lines.Statement.{statement}
@@ -30,16 +30,16 @@ loop-holds : tie.Need-loop-holds Inv-loop μ-loop
 loop-holds c = (refl, refl, omega arith, omega arith, c .before .before .before .pre .fits, refl, λ more. refl)
 
 sub-find : tie.Need-sub-find Inv-loop μ-loop
-sub-find c = search needs
+sub-find c = omega arith
 
 part-find-start : tie.Need-part-find-start Inv-loop μ-loop
-part-find-start c = search needs
+part-find-start c = omega arith
 
 part-find-end : tie.Need-part-find-end Inv-loop μ-loop
-part-find-end c = search needs
+part-find-end c = omega arith
 
 find-requires : tie.Need-find-requires Inv-loop μ-loop
-find-requires c κs = search needs
+find-requires c κs = tt
 
 add-end : tie.Need-add-end Inv-loop μ-loop
 add-end c =
@@ -65,7 +65,7 @@ returns c =
     }
 
 sub-if3 : tie.Need-sub-if3 Inv-loop μ-loop
-sub-if3 c = search needs
+sub-if3 c = omega arith
 
 same-length-3 : tie.Need-same-length-3 Inv-loop μ-loop
 same-length-3 c = search needs
@@ -84,16 +84,16 @@ returns-2 c =
     }
 
 sub-play-line : tie.Need-sub-play-line Inv-loop μ-loop
-sub-play-line c = search needs
+sub-play-line c = omega arith
 
 part-play-line-start : tie.Need-part-play-line-start Inv-loop μ-loop
-part-play-line-start c = search needs
+part-play-line-start c = omega arith
 
 part-play-line-end : tie.Need-part-play-line-end Inv-loop μ-loop
-part-play-line-end c = search needs
+part-play-line-end c = omega arith
 
 slice-aggregate-play-line : tie.Need-slice-aggregate-play-line Inv-loop μ-loop
-slice-aggregate-play-line c = search needs
+slice-aggregate-play-line c = omega arith
 
 play-line-requires : tie.Need-play-line-requires Inv-loop μ-loop
 play-line-requires c κs =
@@ -109,7 +109,7 @@ play-line-requires c κs =
     )
 
 add-read : tie.Need-add-read Inv-loop μ-loop
-add-read c = search needs
+add-read c = omega arith
 
 loop-less : tie.Need-loop-less Inv-loop μ-loop
 unfolding next-run

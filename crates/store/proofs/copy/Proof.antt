@@ -6,8 +6,8 @@ use mathlib.Core.Logic.{_≢_, _⊎_, ⊎-elim}
 use native.Mathlib.Omega.{arith}
 use lib.ListN.{length, getD}
 use denote.Ref.{now}
-use Rattle.protocol.proofs.Basics.{All}
-use Rattle.protocol.specs.Lists.{span}
+use Rattle.boards.proofs.Basics.{All}
+use Rattle.boards.specs.Lists.{span}
 use Rattle.protocol.specs.Image.{Store}
 use Rattle.store.specs.declared.Budget.{Budget}
 use Rattle.store.specs.Budget.{Makes, one}

@@ -8,13 +8,13 @@ use Rattle.store.proofs.copy_at.Statement.{statement}
 use Rattle.store.proofs.copy_at.Tie as tie
 
 sub-copy : tie.Need-sub-copy
-sub-copy c = search needs
+sub-copy c = omega arith
 
 part-copy-start : tie.Need-part-copy-start
-part-copy-start c = search needs
+part-copy-start c = omega arith
 
 part-copy-end : tie.Need-part-copy-end
-part-copy-end c = search needs
+part-copy-end c = omega arith
 
 copy-requires : tie.Need-copy-requires
 copy-requires c κs = search needs

@@ -4,7 +4,7 @@ use mathlib.Core.Path.{_≡_, refl}
 use native.Mathlib.Omega.{arith}
 use lib.ListN.{length, getD}
 use denote.Ref.{now}
-use Rattle.protocol.specs.Lists.{span}
+use Rattle.boards.specs.Lists.{span}
 use Rattle.protocol.specs.Image.{Store}
 use Rattle.store.specs.Budget.{Makes, one}
 use Rattle.store.specs.Runs.{put-stores}

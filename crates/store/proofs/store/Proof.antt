@@ -13,10 +13,10 @@ returns c =
     one-refused (one (args .at) (args .byte)) (now (args .image)) (c .if1 .taken)
 
 slice-write-image : tie.Need-slice-write-image
-slice-write-image c = search needs
+slice-write-image c = omega arith
 
 sub-t8 : tie.Need-sub-t8
-sub-t8 c = search needs
+sub-t8 c = omega arith
 
 same-length : tie.Need-same-length
 same-length c = search needs

@@ -1,7 +1,7 @@
 -- `Record::acknowledge` meets its contract.
 use mathlib.Core.Path.{refl}
 use Rattle.protocol.specs.Volatile.{acknowledge}
-use Rattle.protocol.proofs.Masks.{record-same, open-same}
+use Rattle.protocol.proofs.Records.{record-same, commit-same}
 use Rattle.protocol.proofs.Record.acknowledge.Statement.{statement}
 use Rattle.protocol.proofs.Record.acknowledge.Tie as tie
 
@@ -10,7 +10,7 @@ with-board-requires c κs = c .before .before .pre
 
 returns : tie.Need-returns
 unfolding acknowledge
-returns c = record-same refl (open-same (c .with-board .ensures))
+returns c = record-same refl (commit-same (c .with-board .ensures))
 
 pub acknowledge-spec : {M : Type 1} → statement M
 acknowledge-spec = tie.close (tie.spec with-board-requires returns)

@@ -3,9 +3,10 @@ use mathlib.Core.Path.{_∙_, ap, refl}
 use native.Mathlib.Omega.{arith}
 use lib.ListN.{set}
 use borrow.Author.Needs.{needs}
-use Rattle.protocol.specs.Rows.{links-of}
+use Rattle.boards.specs.Rows.{links-of}
 use Rattle.protocol.specs.Volatile.{depend, depends}
-use Rattle.protocol.proofs.Masks.{Sixteen, set-linked, record-same}
+use Rattle.boards.proofs.Masks.{Sixteen, set-linked}
+use Rattle.protocol.proofs.Records.{record-same}
 use Rattle.protocol.proofs.Record.depend.Statement.{statement}
 use Rattle.protocol.proofs.Record.depend.Tie as tie
 
@@ -13,7 +14,7 @@ mul-row : tie.Need-mul-row
 mul-row c = omega arith
 
 array-read-row : tie.Need-array-read-row
-array-read-row c = search needs
+array-read-row c = omega arith
 
 with-board-requires : tie.Need-with-board-requires
 with-board-requires c κs = c .before .before .pre .1
@@ -22,7 +23,7 @@ mul-rows : tie.Need-mul-rows
 mul-rows c = omega arith
 
 array-write-rows : tie.Need-array-write-rows
-array-write-rows c = search needs
+array-write-rows c = omega arith
 
 sixteen : (c : tie.Start) → Sixteen (c .args .self .rows)
 sixteen c = record { long = search needs; small = λ a. search needs }

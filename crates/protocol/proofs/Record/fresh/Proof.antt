@@ -1,12 +1,16 @@
 -- `Record::fresh` meets its contract.
 use mathlib.Core.Path.{refl}
-use Rattle.protocol.specs.Volatile.{fresh, closed}
+use Rattle.protocol.specs.Volatile.{fresh}
+use Rattle.protocol.proofs.Records.{record-same}
 use Rattle.protocol.proofs.Record.fresh.Statement.{statement}
 use Rattle.protocol.proofs.Record.fresh.Tie as tie
 
+closed-requires : tie.Need-closed-requires
+closed-requires c κs = tt
+
 returns : tie.Need-returns
-unfolding fresh closed
-returns c = refl
+unfolding fresh
+returns c = record-same refl (c .closed .ensures)
 
 pub fresh-spec : {M : Type 1} → statement M
-fresh-spec = tie.close (tie.spec returns)
+fresh-spec = tie.close (tie.spec closed-requires returns)

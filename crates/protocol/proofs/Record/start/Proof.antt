@@ -1,7 +1,7 @@
 -- `Record::start` meets its contract.
 use mathlib.Core.Path.{refl}
 use Rattle.protocol.specs.Volatile.{start, opened, acknowledge}
-use Rattle.protocol.proofs.Masks.{record-same, open-same}
+use Rattle.protocol.proofs.Records.{record-same, commit-same}
 use Rattle.protocol.proofs.Record.start.Statement.{statement}
 use Rattle.protocol.proofs.Record.start.Tie as tie
 
@@ -10,7 +10,7 @@ with-board-requires c κs = c .before .pre
 
 returns : tie.Need-returns
 unfolding start opened acknowledge
-returns c = record-same refl (open-same (c .with-board .ensures))
+returns c = record-same refl (commit-same (c .with-board .ensures))
 
 pub start-spec : {M : Type 1} → statement M
 start-spec = tie.close (tie.spec with-board-requires returns)

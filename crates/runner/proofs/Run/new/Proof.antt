@@ -1,12 +1,11 @@
 -- `Run::new` meets its contract.
 use mathlib.Core.Path.{refl}
 use Rattle.text.specs.Whole.{start}
-use borrow.Author.Needs.{needs}
 use Rattle.runner.proofs.Run.new.Statement.{statement}
 use Rattle.runner.proofs.Run.new.Tie as tie
 
 off-requires : tie.Need-off-requires
-off-requires c κs = search needs
+off-requires c κs = tt
 
 returns : tie.Need-returns
 unfolding start

@@ -1,0 +1,69 @@
+// A set of boards in sixteen bits: bit j for board j.
+ghost use mathlib.Core.Path.{_≡_};
+ghost use Prim.Native.Nat.{_<_};
+ghost use Rattle.boards.specs.Boards.{has, single, with-board, meets, within, beyond, tagged-in};
+ghost use Rattle.boards.specs.Rows.{joined};
+
+pub fn has(g: u16, j: u8) -> bool
+    requires { ⌜ j < 16 ⌝ }
+    ensures { λ r. ⌜ r ≡ has g j ⌝ }
+{
+    (g >> j) % 2 == 1
+}
+
+pub fn single(i: u8) -> u16
+    requires { ⌜ i < 16 ⌝ }
+    ensures { λ r. ⌜ r ≡ single i ⌝ }
+{
+    1u16 << i
+}
+
+pub fn with_board(g: u16, i: u8) -> u16
+    requires { ⌜ i < 16 ⌝ }
+    ensures { λ r. ⌜ r ≡ with-board g i ⌝ }
+{
+    g | single(i)
+}
+
+// Whether g and h share a board.
+pub fn meet(g: u16, h: u16) -> bool
+    ensures { λ r. ⌜ r ≡ meets g (has h) ⌝ }
+{
+    g & h != 0
+}
+
+pub fn within(g: u16, h: u16) -> bool
+    ensures { λ r. ⌜ r ≡ within g h ⌝ }
+{
+    g & h == g
+}
+
+// The boards of g, with those of h if the test holds.
+pub fn join(test: bool, h: u16, g: u16) -> u16
+    ensures { λ r. ⌜ r ≡ joined test (has h) g ⌝ }
+{
+    if test { g | h } else { g }
+}
+
+// Whether g has a bit at or above p.
+pub fn beyond(p: u8, g: u16) -> bool
+    ensures { λ r. ⌜ r ≡ beyond p g ⌝ }
+{
+    if p >= 16 {
+        return false;
+    }
+    g >> p != 0
+}
+
+// Whether a tag names a member of g.
+pub fn tagged_in(g: u16, tag: u8) -> bool
+    ensures { λ r. ⌜ r ≡ tagged-in g tag ⌝ }
+{
+    if tag == 0 {
+        return false;
+    }
+    if tag > 16 {
+        return false;
+    }
+    has(g, tag - 1)
+}

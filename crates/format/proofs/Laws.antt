@@ -1,0 +1,105 @@
+-- The stores of a format, round by round and all together; none of them decides; how the call ends.
+use Prim.Native.Nat.{ℕ, zero, suc, _+_, _-_, _≤_}
+use mathlib.Core.Path.{_≡_, refl, sym, _∙_, ap, ap₂, subst}
+use mathlib.Core.Bool.{true, false, not}
+use mathlib.Core.List.{List, [], _∷_, _++_}
+use mathlib.Core.Logic.{_≢_, ⊎-elim}
+use lib.Dec.{eqb}
+use lib.ListN.{length, getD, take, List·getD-eq-default}
+use native.Mathlib.Nat.{zero-add, add-zero, suc-add, add-suc}
+use native.Mathlib.Omega.{arith}
+use borrow.Author.Tests.{eq-eqb, ne-eqb, eqb-true}
+use Rattle.boards.specs.Lists.{anyOf, span}
+use Rattle.protocol.specs.Image.{Store, allowed, total, mark, header}
+use Rattle.protocol.specs.Volatile.{fresh}
+use Rattle.protocol.specs.Calls.{first, refused, decides, format-tests, formatting, format}
+use Rattle.protocol.specs.declared.Shape.{Shape}
+use Rattle.protocol.specs.declared.Record.{Record}
+use Rattle.protocol.specs.declared.Reply.{Reply}
+use Rattle.boards.proofs.Basics.{decide, none, also, all-append, all-take, anyOf-false}
+use Rattle.store.specs.Budget.{Makes, one, start}
+use Rattle.store.specs.declared.Budget.{Budget}
+use Rattle.store.proofs.Laws.{makes-then}
+use Rattle.store.proofs.Runs.{span-more, all-span}
+use Rattle.store.specs.Promise.{Formatted, reply-of}
+use Rattle.protocol.specs.Calls.{refusal-of}
+use Rattle.store.proofs.Ends.{made-outcome, first-held, first-passed}
+use Rattle.format.specs.Stores.{header-store, zero-store}
+
+-- ---- the stores
+
+-- one byte more
+pub filled-more : (f : ℕ → Store) (a i : ℕ) {v : ℕ} {b r r′ : Budget} {x y z : List ℕ} → a ≤ i → one i v ≡ f i →
+    Makes (span f a (i - a)) b x r y → Makes (one i v ∷ []) r y r′ z → Makes (span f a (i + 1 - a)) b x r′ z
+filled-more f a i {v} {r} {r′} {y} {z} l e m n =
+    let next : i + 1 - a ≡ suc (i - a) = omega arith in
+    let here : a + (i - a) ≡ i = omega arith in
+    rw (next, span-more f a (i - a), here) (makes-then m (subst (λ (t : Store). Makes (t ∷ []) r y r′ z) e n))
+
+-- a run of stores in two parts, and the second of them by another function
+span-parts : (f g : ℕ → Store) (a m n : ℕ) → ((i : ℕ) → a + m ≤ i → f i ≡ g i) → span f a (m + n) ≡ span f a m ++ span g (a + m) n
+unfolding span
+span-parts f g a zero zero h = refl
+span-parts f g a zero (suc n) h =
+    rw (zero-add, add-zero)
+    (ap₂ (λ (s : Store) (ss : List Store). s ∷ ss) (h a (omega arith))
+    (rw (zero-add, add-zero) at (span-parts f g (suc a) zero n (λ i l. h i (omega arith)))))
+span-parts f g a (suc m) n h =
+    rw (suc-add, add-suc)
+    (ap (λ (ss : List Store). f a ∷ ss) (rw suc-add at (span-parts f g (suc a) m n (λ i l. h i (omega arith)))))
+
+past-header : (s : Shape) (i : ℕ) → 9 ≤ i → header-store s i ≡ zero-store i
+unfolding header mark
+past-header s i l = ap (one i) (List·getD-eq-default (header s) 0 {n = i} (omega arith))
+
+-- byte 0, the header, zeros, byte 0 again
+pub laid-out : (s : Shape) (n : ℕ) {b c d e r : Budget} {v w x y z : List ℕ} → n ≡ total s → 9 ≤ n →
+    Makes (one 0 0 ∷ []) b v c w → Makes (span (header-store s) 1 8) c w d x → Makes (span zero-store 9 (n - 9)) d x e y →
+    Makes (one 0 (getD mark 0 0) ∷ []) e y r z → Makes (formatting s) b v r z
+unfolding formatting
+laid-out s n long l m o p q =
+    let size : total s - 1 ≡ 8 + (n - 9) = omega arith in
+    rw (size, span-parts (header-store s) zero-store 1 8 (n - 9) (λ i h. past-header s i (omega arith)))
+    (makes-then m (makes-then (makes-then o p) q))
+
+-- ---- none decides: byte 9 is past the header and stored 0
+
+quiet : (s : Shape) (i : ℕ) → decides (header-store s i) ≡ false
+unfolding decides header mark
+quiet s i = ⊎-elim (λ h. rw (eqb-true i 9 h)) (λ h. rw h) (decide (eqb i 9))
+
+pub undecided : (s : Shape) (k : ℕ) → anyOf decides (take k (formatting s)) ≡ false
+unfolding formatting decides
+undecided s k =
+    let middle = all-span (header-store s) {P = λ x. decides x ≡ false} 1 (total s - 1) (λ i _ _. quiet s i) in
+    anyOf-false decides (λ x h. h) (all-take k (also refl (all-append middle (also refl none))))
+
+-- ---- the call
+
+module _ {s : Shape} {image : List ℕ} (state : Record) (k : ℕ) where
+  -- refused with the number of the first test that holds
+  turned : (n : ℕ) {r : Reply} → first (format-tests s image) ≡ n → n ≢ 0 → r ≡ refusal-of n state →
+      Formatted s image state k r image
+  unfolding format refused
+  turned n f h e = record { reply = e ∙ rw (f, ne-eqb n 0 h); image = rw (f, ne-eqb n 0 h) }
+
+  -- 4 for a shape that is not allowed, then 5 for another length than its
+  pub turned-shape : {r : Reply} → allowed s ≡ false → r ≡ refusal-of 4 state → Formatted s image state k r image
+  unfolding format-tests
+  turned-shape h = turned 4 (first-held 4 _ (ap not h)) (omega arith)
+
+  pub turned-length : {r : Reply} → allowed s ≡ true → length image ≢ total s → r ≡ refusal-of 5 state →
+      Formatted s image state k r image
+  unfolding format-tests
+  turned-length h l =
+      turned 5 (first-passed 4 _ (ap not h) ∙ first-held 5 [] (ap not (ne-eqb _ _ l))) (omega arith)
+
+  -- done or cut, by what is left of the budget
+  pub ended : {left : Budget} {after : List ℕ} {next : Record} {r : Reply} → allowed s ≡ true → length image ≡ total s →
+      next ≡ fresh → Makes (formatting s) (start k) image left after → r ≡ reply-of k left false 0 next →
+      Formatted s image state k r after
+  unfolding format format-tests first
+  ended {left} h l f m e =
+      let passed : first (format-tests s image) ≡ 0 = rw (h, eq-eqb _ _ l) in
+      let both = made-outcome 0 fresh [] false m (sym (undecided s k)) in
+      record { reply = e ∙ ap (reply-of k left false 0) f ∙ rw passed (both .0); image = rw passed (both .1) }

@@ -1,0 +1,12 @@
+-- `Record::engaged` meets its contract.
+use mathlib.Core.Path.{refl}
+use Rattle.protocol.specs.Volatile.{engaged}
+use Rattle.protocol.proofs.Record.engaged.Statement.{statement}
+use Rattle.protocol.proofs.Record.engaged.Tie as tie
+
+returns : tie.Need-returns
+unfolding engaged
+returns c = refl
+
+pub engaged-spec : {M : Type 1} → statement M
+engaged-spec = tie.close (tie.spec returns)
