@@ -12,11 +12,11 @@ use borrow.Author.Tests.{ne-eqb, le-ltb}
 use Rattle.boards.specs.Lists.{span, anyOf}
 use Rattle.protocol.specs.Accesses.{touched, one-way, two-way, read-binding, write-binding, bind-tag}
 use Rattle.protocol.specs.Image.{Tags, Current, size, base, view, shape-of}
-use Rattle.protocol.specs.Volatile.{depend}
+use Rattle.volatile.specs.Volatile.{depend}
 use Rattle.protocol.specs.Calls.{Read, Write, refusals, refusal-at, tagging, placing, plan, refused, record-refused}
 use Rattle.protocol.specs.Calls.{executed, decides, perform, filled}
 use Rattle.protocol.specs.declared.Shape.{Shape}
-use Rattle.protocol.specs.declared.Record.{Record}
+use Rattle.volatile.specs.declared.Record.{Record}
 use Rattle.protocol.specs.declared.Reply.{Reply}
 use Rattle.boards.proofs.Basics.{length-span}
 use Rattle.protocol.proofs.Bridge.{view-at}

@@ -11,8 +11,8 @@ use native.Mathlib.Numerals.{add-one}
 use borrow.Author.Tests.{eq-eqb, ne-eqb}
 use Rattle.boards.specs.Lists.{span}
 use Rattle.protocol.specs.Accesses.{Binding, one-way, two-way, bind-tag, bind-boards}
-use Rattle.protocol.specs.Volatile.{depend}
-use Rattle.protocol.specs.declared.Record.{Record}
+use Rattle.volatile.specs.Volatile.{depend}
+use Rattle.volatile.specs.declared.Record.{Record}
 use Rattle.boards.proofs.Basics.{length-span}
 use Rattle.store.proofs.Runs.{span-more}
 use Rattle.access.specs.Filled.{filled-from}

@@ -12,11 +12,11 @@ use Rattle.boards.specs.Lists.{anyOf}
 use Rattle.boards.specs.Boards.{has, tagged-in}
 use Rattle.boards.proofs.Basics.{true-or, or-right, false-or}
 use Rattle.protocol.specs.Image.{Memory, Tags, allowed, total, cells, shape-of, view}
-use Rattle.protocol.specs.Volatile.{engaged}
+use Rattle.volatile.specs.Volatile.{engaged}
 use Rattle.protocol.specs.Calls.{Request, Read, Write, Test, test, first, refusals, refusal-at, bad-range, tags-of}
 use Rattle.protocol.specs.Calls.{entry-tests, read-tests, write-tests}
 use Rattle.protocol.specs.declared.Shape.{Shape}
-use Rattle.protocol.specs.declared.Record.{Record}
+use Rattle.volatile.specs.declared.Record.{Record}
 use Rattle.protocol.proofs.Refusals.{Entered, entered, read-passed, write-passed, entry-first, entry-stops}
 use Rattle.protocol.proofs.Plans.{Ranged, ranged}
 use Rattle.protocol.proofs.Safety.{block-below}

@@ -6,11 +6,11 @@ use mathlib.Core.List.{List, [], _∷_, map}
 use lib.Dec.{eqb, ltb}
 use Rattle.boards.specs.Lists.{anyOf}
 use Rattle.protocol.specs.Image.{Tags, Memory, cells}
-use Rattle.protocol.specs.Volatile.{depend}
+use Rattle.volatile.specs.Volatile.{depend}
 use Rattle.protocol.specs.Accesses.{touched, Binding, bind-tag, bind-blocks}
 use Rattle.protocol.specs.Calls.{tags-of, bad-range}
 use Rattle.protocol.specs.declared.Shape.{Shape}
-use Rattle.protocol.specs.declared.Record.{Record}
+use Rattle.volatile.specs.declared.Record.{Record}
 use Rattle.boards.proofs.Basics.{or-false, not-false}
 
 one-block : (s : Shape) (a n : ℕ) → bad-range s a n ≡ false → eqb (a / s .size) ((a + n - 1) / s .size) ≡ true

@@ -1,7 +1,7 @@
 // What stands between two requests: the record, and the length of the image that is lent.
 use crate::text::at_most;
-use protocol::Commit;
-use protocol::Record;
+use volatile::Commit;
+use volatile::Record;
 
 pub struct Bench {
     pub state: Record,

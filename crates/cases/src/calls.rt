@@ -2,9 +2,9 @@
 use crate::text::Request;
 use crate::text::at_most;
 use crate::text::part_end;
-use protocol::Record;
 use protocol::Reply;
 use protocol::Shape;
+use volatile::Record;
 
 fn format_call(image: &mut [u8], state: Record, r: Request) -> Reply {
     let s = Shape {

@@ -4,8 +4,8 @@ use crate::bench::copy;
 use crate::calls::call;
 use crate::tell;
 use crate::text::Request;
-use protocol::Record;
 use protocol::Reply;
+use volatile::Record;
 
 // More than any call stores.
 const ENOUGH: usize = 99999;

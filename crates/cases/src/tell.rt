@@ -2,7 +2,7 @@
 use crate::bench::same_record;
 use crate::text::at_most;
 use protocol::Answer;
-use protocol::Record;
+use volatile::Record;
 
 // What a buffer is filled with before a call.
 pub const FILL: u8 = 238;

@@ -14,13 +14,13 @@ use Rattle.boards.specs.Rows.{links-of, emptied, Grouped}
 use Rattle.boards.specs.declared.Closure.{Closure}
 use Rattle.protocol.specs.Image.{Decision, Group, Tentative, Memory, Put, put, raw, base, allowed, total, view, after}
 use Rattle.protocol.specs.Image.{shape-of}
-use Rattle.protocol.specs.Volatile.{engaged, commit-of, acknowledge, opened, start, clear, depends}
+use Rattle.volatile.specs.Volatile.{engaged, commit-of, acknowledge, opened, start, clear, depends}
 use Rattle.protocol.specs.Calls.{Request, Start, Acknowledge, Test, first, test, refusals, entry-tests, start-tests}
 use Rattle.protocol.specs.Calls.{acknowledge-tests}
 use Rattle.protocol.specs.Calls.{record-refused, plan, perform, placing, completing, acknowledging, decides}
 use Rattle.protocol.specs.declared.Shape.{Shape}
-use Rattle.protocol.specs.declared.Record.{Record}
-use Rattle.protocol.specs.declared.Commit.{Commit}
+use Rattle.volatile.specs.declared.Record.{Record}
+use Rattle.volatile.specs.declared.Commit.{Commit}
 use Rattle.protocol.specs.declared.Reply.{Reply}
 use Rattle.boards.proofs.Basics.{decide, false-not, All, none, also, all-append, all-take, take-map}
 use Rattle.protocol.proofs.Refusals.{entry-stops, entry-goes-on}

@@ -9,10 +9,10 @@ use lib.ListN.{length, getD}
 use native.Mathlib.Omega.{arith}
 use borrow.Author.Tests.{eq-eqb, ne-eqb, lt-ltb, le-ltb, le-leb, lt-leb}
 use Rattle.protocol.specs.Image.{cells, allowed, total, in-order, shape-of, byte}
-use Rattle.protocol.specs.Volatile.{bad-record}
+use Rattle.volatile.specs.Volatile.{bad-record}
 use Rattle.protocol.specs.Calls.{Test, first, entry-tests, bad-range}
 use Rattle.protocol.specs.declared.Shape.{Shape}
-use Rattle.protocol.specs.declared.Record.{Record}
+use Rattle.volatile.specs.declared.Record.{Record}
 use Rattle.protocol.proofs.Refusals.{entered, entry-goes-on}
 use Rattle.layout.proofs.Laws.{Geometry, geometry}
 

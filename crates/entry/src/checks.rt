@@ -1,10 +1,10 @@
 // Test 12 of a record, for P boards (document 01, refusal 12).
 use boards::sets;
-use protocol::Commit;
-use protocol::Record;
+use volatile::Commit;
+use volatile::Record;
 ghost use mathlib.Core.Path.{_≡_};
 ghost use Prim.Native.Nat.{_<_};
-ghost use Rattle.protocol.specs.Volatile.{bad-row, bad-rows, bad-open, bad-closed, bad-commit, bad-record};
+ghost use Rattle.volatile.specs.Volatile.{bad-row, bad-rows, bad-open, bad-closed, bad-commit, bad-record};
 
 // Whether row i has a bit at or above p, is at or above p and not empty, or has its own bit.
 fn bad_row(p: u8, i: u8, row: u16) -> bool

@@ -3,8 +3,8 @@ pub mod checks;
 
 use crate::checks::bad_record;
 use layout::in_order;
-use protocol::Record;
 use protocol::Shape;
+use volatile::Record;
 ghost use mathlib.Core.Path.{_≡_};
 ghost use mathlib.Core.Bool.{true};
 ghost use Rattle.protocol.specs.Image.{allowed};

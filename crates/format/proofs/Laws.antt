@@ -11,10 +11,10 @@ use native.Mathlib.Omega.{arith}
 use borrow.Author.Tests.{eq-eqb, ne-eqb, eqb-true}
 use Rattle.boards.specs.Lists.{anyOf, span}
 use Rattle.protocol.specs.Image.{Store, allowed, total, mark, header}
-use Rattle.protocol.specs.Volatile.{fresh}
+use Rattle.volatile.specs.Volatile.{fresh}
 use Rattle.protocol.specs.Calls.{first, refused, decides, format-tests, formatting, format}
 use Rattle.protocol.specs.declared.Shape.{Shape}
-use Rattle.protocol.specs.declared.Record.{Record}
+use Rattle.volatile.specs.declared.Record.{Record}
 use Rattle.protocol.specs.declared.Reply.{Reply}
 use Rattle.boards.proofs.Basics.{decide, none, also, all-append, all-take, anyOf-false}
 use Rattle.store.specs.Budget.{Makes, one, start}

@@ -5,7 +5,7 @@ use mathlib.Core.Bool.{Bool, true, false, cond}
 use mathlib.Core.List.{List, []}
 use lib.Dec.{eqb}
 use Rattle.protocol.specs.Calls.{Request, Write, Start, Acknowledge, Fault, Power-up, perform, plan, acknowledging}
-use Rattle.protocol.specs.declared.Record.{Record}
+use Rattle.volatile.specs.declared.Record.{Record}
 use Rattle.turns.proofs.Laws.{no-bytes}
 use Rattle.player.specs.Requests.{request-of}
 

@@ -13,7 +13,7 @@ use Rattle.boards.specs.Lists.{for}
 use Rattle.boards.specs.Boards.{has}
 use Rattle.protocol.specs.Image.{Memory, Store, Area, Decision, Tags, Current, Recovery, Tentative, put, after, allowed}
 use Rattle.protocol.specs.Image.{total, in-order, shape-of, view, raw}
-use Rattle.protocol.specs.Volatile.{fresh, opened, depends, commit-of, acknowledge}
+use Rattle.volatile.specs.Volatile.{fresh, opened, depends, commit-of, acknowledge}
 use Rattle.boards.specs.Boards.{commit-group, fault-group}
 use Rattle.protocol.specs.Accesses.{touched}
 use Rattle.protocol.specs.Calls.{Request, Test, Read, Write, Start, Acknowledge, Fault, Power-up, first, refusals}
@@ -23,7 +23,7 @@ use Rattle.protocol.specs.Calls.{tagging, placing, blocks-copied, completing, d
 use Rattle.protocol.specs.Calls.{acknowledging, format, format-tests, formatting, stored-group}
 use Rattle.boards.specs.Boards.{tagged, tagged-in}
 use Rattle.protocol.specs.declared.Shape.{Shape}
-use Rattle.protocol.specs.declared.Record.{Record}
+use Rattle.volatile.specs.declared.Record.{Record}
 use Rattle.boards.proofs.Basics.{decide}
 use Rattle.protocol.proofs.Bridge.{Limits}
 use Rattle.protocol.proofs.Copies.{length-placing}

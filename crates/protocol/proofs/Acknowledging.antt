@@ -12,13 +12,13 @@ use borrow.Author.Tests.{eqb-true, ne-eqb, leb-true, leb-false, le-leb, lt-leb}
 use Rattle.boards.specs.Lists.{anyOf}
 use Rattle.boards.specs.Boards.{has, with-board}
 use Rattle.protocol.specs.Image.{Memory, Put, Tentative, after, view}
-use Rattle.protocol.specs.Volatile.{commit-of, clear, acknowledge}
+use Rattle.volatile.specs.Volatile.{commit-of, clear, acknowledge}
 use Rattle.protocol.specs.Calls.{Plan, Outcome, placing, acknowledging}
 use Rattle.protocol.specs.Ledger.{Ledger, done, cut, with-context, complete, decided-by, decides-now, decided}
 use Rattle.protocol.specs.Ledger.{acknowledged, members-of, all-undone}
 use Rattle.protocol.specs.Claim.{Commits}
 use Rattle.protocol.specs.declared.Shape.{Shape}
-use Rattle.protocol.specs.declared.Record.{Record}
+use Rattle.volatile.specs.declared.Record.{Record}
 use Rattle.boards.proofs.Basics.{decide, All, all-append, all-take}
 use Rattle.protocol.proofs.Bridge.{Valid}
 use Rattle.protocol.proofs.Copies.{placing-other}

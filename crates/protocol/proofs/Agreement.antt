@@ -9,14 +9,14 @@ use native.Mathlib.Omega.{arith}
 use Rattle.boards.specs.Lists.{select}
 use Rattle.boards.specs.Boards.{has, meets, tagged-in, Links, unlinked, unlink}
 use Rattle.protocol.specs.Image.{Decision, Tags, Current, Recovery, Tentative, Checkpoint, Memory, cells}
-use Rattle.protocol.specs.Volatile.{closed, fresh, depends, left-open, clear}
+use Rattle.volatile.specs.Volatile.{closed, fresh, depends, left-open, clear}
 use Rattle.protocol.specs.Ledger.{kept, undone, Open-commit, Ledger, writer, cleared, all-undone}
 use Rattle.protocol.specs.declared.Shape.{Shape}
-use Rattle.protocol.specs.declared.Record.{Record}
-use Rattle.protocol.specs.declared.Commit.{Commit}
+use Rattle.volatile.specs.declared.Record.{Record}
+use Rattle.volatile.specs.declared.Commit.{Commit}
 use Rattle.boards.proofs.Basics.{decide, clash, refute, none}
 use Rattle.boards.proofs.Groups.{Forward, Backward, links-ext, has-zero, has-none, meets-no}
-use Rattle.protocol.proofs.Records.{depends-fresh}
+use Rattle.volatile.proofs.Records.{depends-fresh}
 use Rattle.protocol.proofs.Marks.{Mark, gone, waits, fixed, mark, marks, live, saved, To, to, Above, Kept-order}
 use Rattle.protocol.proofs.Marks.{settle, untag, tag-in, marks-settled, writer-settled, undoes, commit-live}
 use Rattle.protocol.proofs.Marks.{rollback-live, rollback-saved}

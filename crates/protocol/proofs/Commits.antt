@@ -12,17 +12,17 @@ use borrow.Author.Tests.{eqb-true, eqb-false, ltb-true, ltb-false}
 use Rattle.boards.specs.Boards.{has, with-board, meets, tagged-in, unlink, commit-group}
 use Rattle.protocol.specs.Image.{Area, Decision, Tags, Current, Recovery, Tentative, Checkpoint, Memory, Put}
 use Rattle.protocol.specs.Image.{rank, change, after, cells}
-use Rattle.protocol.specs.Volatile.{closed, depends, left-open, clear, opened, acknowledge}
+use Rattle.volatile.specs.Volatile.{closed, depends, left-open, clear, opened, acknowledge}
 use Rattle.protocol.specs.Calls.{stored-group, placing, completing}
 use Rattle.protocol.specs.Ledger.{kept, Open-commit, Ledger, writer, cleared, started, acknowledged-by}
 use Rattle.protocol.specs.Ledger.{with-context, decided}
 use Rattle.protocol.specs.declared.Shape.{Shape}
-use Rattle.protocol.specs.declared.Record.{Record}
-use Rattle.protocol.specs.declared.Commit.{Commit}
+use Rattle.volatile.specs.declared.Record.{Record}
+use Rattle.volatile.specs.declared.Commit.{Commit}
 use Rattle.boards.proofs.Basics.{decide, clash, or-true, All, also}
 use Rattle.boards.proofs.Groups.{Forward, Bounded, has-zero, has-with, no-beyond, set-split, commit-group-self}
 use Rattle.boards.proofs.Groups.{commit-group-small, commit-group-below}
-use Rattle.protocol.proofs.Records.{depends-clear}
+use Rattle.volatile.proofs.Records.{depends-clear}
 use Rattle.protocol.proofs.Marks.{marks, live, saved, settle, tag-in, marks-settled, writer-settled, keeps}
 use Rattle.protocol.proofs.Marks.{commit-saved, commit-reads}
 use Rattle.protocol.proofs.Consistent.{started-ok, handed-ok, decided-ok}

@@ -15,7 +15,7 @@ use Rattle.boards.specs.Lists.{span, anyOf, select}
 use Rattle.boards.specs.Boards.{has, meets, tagged-in, unlinked, fault-group, commit-group}
 use Rattle.protocol.specs.Image.{Decision, Tags, Current, Recovery, Checkpoint, Memory, rank, after, cells, view}
 use Rattle.protocol.specs.Image.{in-order, size}
-use Rattle.protocol.specs.Volatile.{closed, fresh, off, depends, engaged, clear, opened, bad-record}
+use Rattle.volatile.specs.Volatile.{closed, fresh, off, depends, engaged, clear, opened, bad-record}
 use Rattle.protocol.specs.Calls.{Request, Read, Write, Start, Acknowledge, Fault, Power-up, Test, first, refusals}
 use Rattle.protocol.specs.Calls.{entry-tests, read-tests, write-tests, start-tests, acknowledge-tests}
 use Rattle.protocol.specs.Calls.{power-tests}
@@ -27,12 +27,12 @@ use Rattle.protocol.specs.Ledger.{commit-effect, effect, update}
 use Rattle.protocol.specs.Claim.{verdict, System, Call, waits, answer, next, formatted, Holds, bytes-from, newest}
 use Rattle.protocol.specs.Claim.{Commits, Answers, Faithful, end, and-then, Demand-3, Format-done}
 use Rattle.protocol.specs.declared.Shape.{Shape}
-use Rattle.protocol.specs.declared.Record.{Record}
-use Rattle.protocol.specs.declared.Commit.{Commit}
+use Rattle.volatile.specs.declared.Record.{Record}
+use Rattle.volatile.specs.declared.Commit.{Commit}
 use Rattle.boards.proofs.Basics.{decide, clash, or-false, not-false, none-any, All, none, also, all-map, false-anyOf}
 use Rattle.boards.proofs.Basics.{getD-span, length-span}
 use Rattle.boards.proofs.Groups.{Backward, bounded-more, fault-group-backward, commit-group-self, has-zero}
-use Rattle.protocol.proofs.Records.{depends-fresh}
+use Rattle.volatile.proofs.Records.{depends-fresh}
 use Rattle.protocol.proofs.Refusals.{entered, read-passed, write-passed, start-passed, acknowledge-passed}
 use Rattle.protocol.proofs.Refusals.{entry-first}
 use Rattle.protocol.proofs.Marks.{marks, live, saved, live-byte, byte-older}

@@ -13,10 +13,10 @@ use borrow.Author.Tests.{eq-eqb, eqb-true, eqb-false, le-ltb, ltb-false, ltb-tru
 use Rattle.boards.specs.Lists.{span, every}
 use Rattle.protocol.specs.Image.{Area, allowed, total, base, size, rank, exponent, exponent-from, mark, header}
 use Rattle.protocol.specs.Image.{byte, shape-of, view, Store, made}
-use Rattle.protocol.specs.Volatile.{fresh}
+use Rattle.volatile.specs.Volatile.{fresh}
 use Rattle.protocol.specs.Calls.{first, refused, executed, format-tests, formatting, format}
 use Rattle.protocol.specs.declared.Shape.{Shape}
-use Rattle.protocol.specs.declared.Record.{Record}
+use Rattle.volatile.specs.declared.Record.{Record}
 use Rattle.boards.proofs.Basics.{decide, refute, below-suc, length-span}
 use Rattle.protocol.proofs.Bridge.{Sound, sound-bytes, limits, view-at, view-past, fits, past-header}
 use Rattle.protocol.proofs.Bridge.{length-made}

@@ -1,4 +1,3 @@
-pub mod Records
 pub mod Refusals
 pub mod Marks
 pub mod Soundness

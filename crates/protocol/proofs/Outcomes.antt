@@ -11,14 +11,14 @@ use native.Mathlib.Omega.{arith}
 use borrow.Author.Tests.{eqb-true, eqb-false, ne-eqb, ltb-true, ltb-false, lt-ltb, le-ltb}
 use Rattle.boards.specs.Lists.{anyOf}
 use Rattle.protocol.specs.Image.{Memory, Put, rank, raw, after, view}
-use Rattle.protocol.specs.Volatile.{off}
+use Rattle.volatile.specs.Volatile.{off}
 use Rattle.protocol.specs.Calls.{Request, first, refusals}
 use Rattle.protocol.specs.Calls.{Plan, plan, Outcome, refused as refuse, decides, executed, record-refused}
 use Rattle.protocol.specs.Calls.{perform}
 use Rattle.protocol.specs.Ledger.{Verdict, refused, done, cut}
 use Rattle.protocol.specs.Claim.{verdict}
 use Rattle.protocol.specs.declared.Shape.{Shape}
-use Rattle.protocol.specs.declared.Record.{Record}
+use Rattle.volatile.specs.declared.Record.{Record}
 use Rattle.boards.proofs.Basics.{decide, All, none, also, all-take, take-map}
 use Rattle.protocol.proofs.Refusals.{uncut, refusals-uncut}
 use Rattle.protocol.proofs.Bridge.{Sound, Valid, view-made-fun, made-sound, decides-raw}

@@ -14,14 +14,14 @@ use Rattle.boards.specs.Boards.{has, beyond, tagged-in}
 use Rattle.boards.proofs.Basics.{decide, or-false, not-false, All, none, also}
 use Rattle.protocol.specs.Image.{Memory, Area, Decision, Group, Tags, byte, mark, cells, allowed, total, in-order}
 use Rattle.protocol.specs.Image.{shape-of, view, base, size}
-use Rattle.protocol.specs.Volatile.{engaged, commit-of, bad-record}
+use Rattle.volatile.specs.Volatile.{engaged, commit-of, bad-record}
 use Rattle.protocol.specs.Calls.{Request, Read, Write, Start, Acknowledge, Fault, Power-up, Test, test, first}
 use Rattle.protocol.specs.Calls.{refusals}
 use Rattle.protocol.specs.Calls.{tags-of, bad-range, stored-group, bad-tags, bad-decision}
 use Rattle.protocol.specs.Calls.{entry-tests, read-tests, write-tests, start-tests, acknowledge-tests}
 use Rattle.protocol.specs.Calls.{power-tests}
 use Rattle.protocol.specs.declared.Shape.{Shape}
-use Rattle.protocol.specs.declared.Record.{Record}
+use Rattle.volatile.specs.declared.Record.{Record}
 
 -- ---- lists of tests
 

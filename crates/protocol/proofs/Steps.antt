@@ -14,18 +14,18 @@ use Rattle.boards.specs.Lists.{span, anyOf}
 use Rattle.boards.specs.Boards.{has, meets, tagged-in, link, unlink}
 use Rattle.protocol.specs.Image.{Area, Decision, Tags, Current, Recovery, Tentative, Checkpoint, Memory, rank}
 use Rattle.protocol.specs.Image.{after, cells}
-use Rattle.protocol.specs.Volatile.{closed, depends, left-open, depend, clear}
+use Rattle.volatile.specs.Volatile.{closed, depends, left-open, depend, clear}
 use Rattle.protocol.specs.Accesses.{touched, Binding, one-way, two-way, read-binding, write-binding, bind-boards}
 use Rattle.protocol.specs.Accesses.{bind-tag, bind-blocks}
 use Rattle.protocol.specs.Calls.{placing, tagging, blocks-copied}
 use Rattle.protocol.specs.Ledger.{pending, undone, Wrote, Read-from, Note, Ledger, is-pending, covers, written}
 use Rattle.protocol.specs.Ledger.{wrote-in, writer, source, cleared, noted}
 use Rattle.protocol.specs.declared.Shape.{Shape}
-use Rattle.protocol.specs.declared.Record.{Record}
+use Rattle.volatile.specs.declared.Record.{Record}
 use Rattle.boards.proofs.Basics.{decide, clash, and-true, true-and, and-false, All, none, also, all-map}
 use Rattle.protocol.proofs.Memory.{after-append}
 use Rattle.boards.proofs.Groups.{Backward, Bounded, bounded-more, link-bounded, has-zero}
-use Rattle.protocol.proofs.Records.{depends-depend, depends-clear}
+use Rattle.volatile.proofs.Records.{depends-depend, depends-clear}
 use Rattle.protocol.proofs.Marks.{mark, marks, live, saved, tag-in, marks-settled, writer-settled, undoes}
 use Rattle.protocol.proofs.Marks.{rollback-same, rollback-saved}
 use Rattle.protocol.proofs.Consistent.{Access-ok, writer-below, read-covers, noted-read, noted-write}

@@ -10,11 +10,11 @@ use Rattle.boards.specs.Boards.{has, beyond, tagged-in, tagged, commit-group, f
 use Rattle.protocol.specs.Image.{Memory, Area, Decision, Group, Tags, Current, Recovery, Tentative, Checkpoint}
 use Rattle.protocol.specs.Image.{cells, allowed, total, header, mark, shape-of, in-order, view, base}
 use Rattle.protocol.specs.Image.{Store, made, Put, put, raw, after}
-use Rattle.protocol.specs.Volatile.{fresh, off, depends, engaged, commit-of, depend, clear, opened, acknowledge}
-use Rattle.protocol.specs.Volatile.{bad-record}
+use Rattle.volatile.specs.Volatile.{fresh, off, depends, engaged, commit-of, depend, clear, opened, acknowledge}
+use Rattle.volatile.specs.Volatile.{bad-record}
 use Rattle.protocol.specs.Accesses.{touched, read-binding, write-binding, bind-blocks}
 use Rattle.protocol.specs.declared.Shape.{Shape}
-use Rattle.protocol.specs.declared.Record.{Record}
+use Rattle.volatile.specs.declared.Record.{Record}
 use Rattle.protocol.specs.declared.Answer.{Answer}
 use Rattle.protocol.specs.declared.Reply.{Reply}
 

@@ -15,7 +15,7 @@ use Rattle.protocol.specs.Calls.{format, context-status, context-part}
 use Rattle.protocol.specs.Ledger.{Verdict, refused, done, cut, Note, Ledger, blank, source, byte-from, sources-of}
 use Rattle.protocol.specs.Ledger.{reads-undone, members-of, started, decides-now, update}
 use Rattle.protocol.specs.declared.Shape.{Shape}
-use Rattle.protocol.specs.declared.Record.{Record}
+use Rattle.volatile.specs.declared.Record.{Record}
 
 -- refused, done or cut, read off the status
 unfoldable pub verdict : Outcome → Verdict

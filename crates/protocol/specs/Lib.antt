@@ -1,5 +1,4 @@
 pub mod Image
-pub mod Volatile
 pub mod Accesses
 pub mod Calls
 pub mod Ledger

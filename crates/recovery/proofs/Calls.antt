@@ -10,14 +10,14 @@ use native.Mathlib.Omega.{arith}
 use borrow.Author.Tests.{eq-eqb, ne-eqb}
 use Rattle.boards.specs.Boards.{fault-group}
 use Rattle.protocol.specs.Image.{Decision, Recovery, Current, in-order, shape-of, view}
-use Rattle.protocol.specs.Volatile.{depends, clear, fresh, off}
+use Rattle.volatile.specs.Volatile.{depends, clear, fresh, off}
 use Rattle.boards.specs.Boards.{beyond}
 use Rattle.protocol.specs.Calls.{Request, Fault, Power-up, first, refusals, entry-tests, power-tests, bad-tags}
 use Rattle.protocol.specs.Calls.{bad-decision}
 use Rattle.protocol.specs.Calls.{stored-group, blocks-copied, recovering, plan, record-refused}
 use Rattle.boards.specs.Boards.{tagged-in}
 use Rattle.protocol.specs.declared.Shape.{Shape}
-use Rattle.protocol.specs.declared.Record.{Record}
+use Rattle.volatile.specs.declared.Record.{Record}
 use Rattle.protocol.specs.declared.Reply.{Reply}
 use Rattle.protocol.proofs.Refusals.{Power-passed, power-passed}
 use Rattle.store.specs.Budget.{start}

@@ -3,8 +3,8 @@
 use events::take_apart;
 use fields::find;
 use player::play;
-use protocol::Record;
 use turns::Session;
+use volatile::Record;
 ghost use mathlib.Core.Path.{_≡_};
 ghost use mathlib.Core.List.{[]};
 ghost use Prim.Native.Nat.{_+_, _-_, _≤_, _<_};

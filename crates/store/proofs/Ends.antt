@@ -10,11 +10,11 @@ use native.Mathlib.Omega.{arith}
 use borrow.Author.Tests.{ne-eqb}
 use Rattle.boards.specs.Lists.{anyOf}
 use Rattle.protocol.specs.Image.{Store, raw, view, shape-of}
-use Rattle.protocol.specs.Volatile.{off}
+use Rattle.volatile.specs.Volatile.{off}
 use Rattle.protocol.specs.Calls.{Test, test, first, Request, plan, refusals, refused, record-refused, executed, decides}
 use Rattle.protocol.specs.Calls.{perform}
 use Rattle.protocol.specs.declared.Shape.{Shape}
-use Rattle.protocol.specs.declared.Record.{Record}
+use Rattle.volatile.specs.declared.Record.{Record}
 use Rattle.protocol.specs.declared.Reply.{Reply}
 use Rattle.store.specs.Budget.{Makes, start, spent}
 use Rattle.store.specs.declared.Budget.{Budget}

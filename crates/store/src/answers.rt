@@ -1,8 +1,8 @@
 // How a call answers: from what is left of its budget, or by the number of its refusal.
 use crate::Budget;
 use protocol::Answer;
-use protocol::Record;
 use protocol::Reply;
+use volatile::Record;
 ghost use mathlib.Core.Path.{_≡_};
 ghost use Prim.Native.Nat.{_≤_};
 ghost use Rattle.store.specs.Promise.{reply-of};

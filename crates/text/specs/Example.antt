@@ -9,8 +9,8 @@ use Rattle.boards.specs.Boards.{fault-group}
 use Rattle.boards.specs.Rows.{links-of, rows-of, emptied}
 use Rattle.protocol.specs.Image.{allowed, size, base, total, mark, exponent, exponent-from, header, shape-of, in-order}
 use Rattle.protocol.specs.Image.{view, made, raw, rank, change, after}
-use Rattle.protocol.specs.Volatile.{closed, fresh, off, depends, engaged, commit-of, left-open, depend, clear, opened}
-use Rattle.protocol.specs.Volatile.{acknowledge, bad-row, bad-rows, bad-open, bad-closed, bad-commit, bad-record}
+use Rattle.volatile.specs.Volatile.{closed, fresh, off, depends, engaged, commit-of, left-open, depend, clear, opened}
+use Rattle.volatile.specs.Volatile.{acknowledge, bad-row, bad-rows, bad-open, bad-closed, bad-commit, bad-record}
 use Rattle.protocol.specs.Accesses.{touched, read-binding, write-binding, bind-boards, bind-tag, bind-blocks}
 use Rattle.protocol.specs.Calls.{first, bad-range, stored-group, bad-tags, bad-decision, entry-tests, read-tests}
 use Rattle.protocol.specs.Calls.{write-tests, start-tests, acknowledge-tests, power-tests, refusals, placing, tagging}

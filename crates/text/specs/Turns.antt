@@ -6,10 +6,10 @@ use mathlib.Core.Logic.{_≢_}
 use lib.Dec.{eqb}
 use lib.ListN.{replicate}
 use Rattle.protocol.specs.Image.{allowed, total}
-use Rattle.protocol.specs.Volatile.{off}
+use Rattle.volatile.specs.Volatile.{off}
 use Rattle.protocol.specs.Calls.{Request, Read, Write, Start, Acknowledge, Fault, Power-up, Outcome, perform, format}
 use Rattle.protocol.specs.declared.Shape.{Shape}
-use Rattle.protocol.specs.declared.Record.{Record}
+use Rattle.volatile.specs.declared.Record.{Record}
 use Rattle.protocol.specs.declared.Answer.{Answer}
 use Rattle.text.specs.Events.{Event, Format, Make, Allow, Unreadable}
 use Rattle.text.specs.Rows.{Row}

@@ -14,7 +14,7 @@ use Rattle.protocol.specs.Image.{Store, made, view, shape-of, raw, Current}
 use Rattle.protocol.specs.Calls.{Request, Read, first, Outcome, perform, executed, refused, refusals, read-tests, plan}
 use Rattle.protocol.specs.Calls.{record-refused, format, format-tests, formatting, filled}
 use Rattle.protocol.specs.declared.Shape.{Shape}
-use Rattle.protocol.specs.declared.Record.{Record}
+use Rattle.volatile.specs.declared.Record.{Record}
 use Rattle.protocol.specs.declared.Reply.{Reply}
 use Rattle.boards.proofs.Basics.{decide, clash, length-span}
 use Rattle.protocol.proofs.Refusals.{read-passed, entry-first}

@@ -13,7 +13,7 @@ use borrow.Author.Tests.{eq-eqb, ne-eqb}
 use Rattle.protocol.specs.Calls.{Outcome, Request, Read, Write, Start, Acknowledge, Fault, Power-up, perform, plan}
 use Rattle.protocol.specs.Calls.{acknowledging, format}
 use Rattle.protocol.specs.declared.Shape.{Shape}
-use Rattle.protocol.specs.declared.Record.{Record}
+use Rattle.volatile.specs.declared.Record.{Record}
 use Rattle.protocol.specs.declared.Reply.{Reply}
 use Rattle.store.specs.Promise.{Performed, Formatted, Answered}
 use Rattle.text.specs.Events.{room}

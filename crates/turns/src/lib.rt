@@ -1,16 +1,16 @@
 // What a line's turn ends with: its rows, the power-up after a cut, and what stands between two lines.
 use printing::put_row;
 use protocol::Answer;
-use protocol::Record;
 use protocol::Reply;
 use recovery::power_up;
+use volatile::Record;
 ghost use mathlib.Core.Path.{_≡_};
 ghost use mathlib.Core.Bool.{cond};
 ghost use mathlib.Core.List.{List};
 ghost use Prim.Native.Nat.{ℕ, _+_, _≤_};
 ghost use lib.Dec.{eqb};
 ghost use lib.ListN.{length, take};
-ghost use Rattle.protocol.specs.declared.Record.{Record as State};
+ghost use Rattle.volatile.specs.declared.Record.{Record as State};
 ghost use Rattle.protocol.specs.Calls.{perform, Power-up};
 ghost use Rattle.text.specs.Turns.{ended, told, uncut};
 ghost use Rattle.turns.specs.Turned.{Turns, Powered};

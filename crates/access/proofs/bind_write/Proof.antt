@@ -4,7 +4,7 @@ use mathlib.Core.Path.{_∙_, ap}
 use borrow.Author.Needs.{needs}
 use native.Mathlib.Omega.{arith}
 use Rattle.protocol.specs.Accesses.{two-way, bind-boards}
-use Rattle.protocol.specs.Volatile.{depend}
+use Rattle.volatile.specs.Volatile.{depend}
 use Rattle.access.proofs.Laws.{bind-none, bind-own, bind-other}
 use Rattle.access.proofs.bind_write.Statement.{statement}
 use Rattle.access.proofs.bind_write.Tie as tie

@@ -3,7 +3,7 @@ use mathlib.Core.Path.{_≡_, sym, _∙_, ap, refl}
 use native.Mathlib.Omega.{arith}
 use denote.Ref.{now}
 use Rattle.boards.specs.Rows.{emptied}
-use Rattle.protocol.specs.Volatile.{depends}
+use Rattle.volatile.specs.Volatile.{depends}
 use Rattle.store.proofs.Laws.{well-start}
 use Rattle.store.proofs.Ends.{left-most}
 use Rattle.entry.proofs.Laws.{entry-geometry, entry-small}

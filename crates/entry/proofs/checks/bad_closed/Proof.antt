@@ -2,7 +2,7 @@
 use mathlib.Core.Path.{ap, refl}
 use mathlib.Core.Bool.{not}
 use borrow.Author.Tests.{eq-eqb, ne-eqb}
-use Rattle.protocol.specs.Volatile.{bad-closed}
+use Rattle.volatile.specs.Volatile.{bad-closed}
 use Rattle.entry.proofs.Chains.{or-stop, or-pass}
 use Rattle.entry.proofs.checks.bad_closed.Statement.{statement}
 use Rattle.entry.proofs.checks.bad_closed.Tie as tie

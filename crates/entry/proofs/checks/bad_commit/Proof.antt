@@ -1,7 +1,7 @@
 -- `bad_commit` meets its contract, test by test.
 use mathlib.Core.Path.{_∙_, sym}
 use borrow.Author.Tests.{eq-eqb, ne-eqb}
-use Rattle.protocol.specs.Volatile.{bad-commit, bad-closed, bad-open}
+use Rattle.volatile.specs.Volatile.{bad-commit, bad-closed, bad-open}
 use Rattle.boards.proofs.Basics.{if-true, if-false}
 use Rattle.entry.proofs.Chains.{or-stop, or-pass}
 use Rattle.entry.proofs.checks.bad_commit.Statement.{statement}

@@ -3,7 +3,7 @@ use mathlib.Core.Path.{_∙_, sym, ap}
 use mathlib.Core.Bool.{not}
 use native.Mathlib.Omega.{arith}
 use borrow.Author.Tests.{eq-eqb, ne-eqb}
-use Rattle.protocol.specs.Volatile.{bad-open}
+use Rattle.volatile.specs.Volatile.{bad-open}
 use Rattle.boards.proofs.Groups.{has-small}
 use Rattle.entry.proofs.Chains.{or-stop, or-pass}
 use Rattle.entry.proofs.checks.bad_open.Statement.{statement}

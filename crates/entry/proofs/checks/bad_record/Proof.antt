@@ -1,6 +1,6 @@
 -- `bad_record` meets its contract, test by test.
 use mathlib.Core.Path.{_∙_, sym}
-use Rattle.protocol.specs.Volatile.{bad-record}
+use Rattle.volatile.specs.Volatile.{bad-record}
 use Rattle.entry.proofs.Chains.{or-stop, or-pass}
 use Rattle.entry.proofs.checks.bad_record.Statement.{statement}
 use Rattle.entry.proofs.checks.bad_record.Tie as tie

@@ -1,7 +1,7 @@
 -- `bad_row` meets its contract, test by test.
 use mathlib.Core.Path.{_∙_, sym}
 use borrow.Author.Tests.{lt-leb}
-use Rattle.protocol.specs.Volatile.{bad-row}
+use Rattle.volatile.specs.Volatile.{bad-row}
 use Rattle.boards.proofs.Basics.{false-and}
 use Rattle.entry.proofs.Chains.{or-stop, or-pass, row-above}
 use Rattle.entry.proofs.checks.bad_row.Statement.{statement}

@@ -7,7 +7,7 @@ use lib.ListN.{getD}
 use native.Mathlib.Numerals.{add-one}
 use native.Mathlib.Omega.{arith}
 use Rattle.boards.specs.Lists.{any}
-use Rattle.protocol.specs.Volatile.{bad-row, bad-rows}
+use Rattle.volatile.specs.Volatile.{bad-row, bad-rows}
 use Rattle.boards.proofs.Basics.{some-any, false-or}
 use Rattle.entry.proofs.checks.bad_rows.Statement.{statement}
 use Rattle.entry.proofs.checks.bad_rows.Tie as tie

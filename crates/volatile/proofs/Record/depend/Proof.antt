@@ -4,11 +4,11 @@ use native.Mathlib.Omega.{arith}
 use lib.ListN.{set}
 use borrow.Author.Needs.{needs}
 use Rattle.boards.specs.Rows.{links-of}
-use Rattle.protocol.specs.Volatile.{depend, depends}
+use Rattle.volatile.specs.Volatile.{depend, depends}
 use Rattle.boards.proofs.Masks.{Sixteen, set-linked}
-use Rattle.protocol.proofs.Records.{record-same}
-use Rattle.protocol.proofs.Record.depend.Statement.{statement}
-use Rattle.protocol.proofs.Record.depend.Tie as tie
+use Rattle.volatile.proofs.Records.{record-same}
+use Rattle.volatile.proofs.Record.depend.Statement.{statement}
+use Rattle.volatile.proofs.Record.depend.Tie as tie
 
 mul-row : tie.Need-mul-row
 mul-row c = omega arith

@@ -1,9 +1,9 @@
 -- `Record::start` meets its contract.
 use mathlib.Core.Path.{refl}
-use Rattle.protocol.specs.Volatile.{start, opened, acknowledge}
-use Rattle.protocol.proofs.Records.{record-same, commit-same}
-use Rattle.protocol.proofs.Record.start.Statement.{statement}
-use Rattle.protocol.proofs.Record.start.Tie as tie
+use Rattle.volatile.specs.Volatile.{start, opened, acknowledge}
+use Rattle.volatile.proofs.Records.{record-same, commit-same}
+use Rattle.volatile.proofs.Record.start.Statement.{statement}
+use Rattle.volatile.proofs.Record.start.Tie as tie
 
 with-board-requires : tie.Need-with-board-requires
 with-board-requires c κs = c .before .pre

@@ -7,9 +7,9 @@ use Rattle.boards.specs.Lists.{for}
 use Rattle.boards.specs.Boards.{has, mask, unlinked, link, unlink}
 use Rattle.boards.specs.Rows.{links-of, rows-of}
 use Rattle.boards.proofs.Groups.{Bounded, links-ext, links-rows, links-emptied, link-bounded, unlinked-bounded}
-use Rattle.protocol.specs.Volatile.{fresh, depends, depend, clear}
-use Rattle.protocol.specs.declared.Record.{Record}
-use Rattle.protocol.specs.declared.Commit.{Commit}
+use Rattle.volatile.specs.Volatile.{fresh, depends, depend, clear}
+use Rattle.volatile.specs.declared.Record.{Record}
+use Rattle.volatile.specs.declared.Commit.{Commit}
 
 pub record-same : {t : Bool} {f g : List ℕ} {o p : Commit} → f ≡ g → o ≡ p →
     _≡_ {A = Record} (record { on = t; rows = f; commit = o }) (record { on = t; rows = g; commit = p })

@@ -1,9 +1,9 @@
 -- `Record::off` meets its contract.
 use mathlib.Core.Path.{refl}
-use Rattle.protocol.specs.Volatile.{off}
-use Rattle.protocol.proofs.Records.{record-same}
-use Rattle.protocol.proofs.Record.off.Statement.{statement}
-use Rattle.protocol.proofs.Record.off.Tie as tie
+use Rattle.volatile.specs.Volatile.{off}
+use Rattle.volatile.proofs.Records.{record-same}
+use Rattle.volatile.proofs.Record.off.Statement.{statement}
+use Rattle.volatile.proofs.Record.off.Tie as tie
 
 closed-requires : tie.Need-closed-requires
 closed-requires c κs = tt

@@ -1,9 +1,9 @@
 -- `Record::acknowledge` meets its contract.
 use mathlib.Core.Path.{refl}
-use Rattle.protocol.specs.Volatile.{acknowledge}
-use Rattle.protocol.proofs.Records.{record-same, commit-same}
-use Rattle.protocol.proofs.Record.acknowledge.Statement.{statement}
-use Rattle.protocol.proofs.Record.acknowledge.Tie as tie
+use Rattle.volatile.specs.Volatile.{acknowledge}
+use Rattle.volatile.proofs.Records.{record-same, commit-same}
+use Rattle.volatile.proofs.Record.acknowledge.Statement.{statement}
+use Rattle.volatile.proofs.Record.acknowledge.Tie as tie
 
 with-board-requires : tie.Need-with-board-requires
 with-board-requires c κs = c .before .before .pre

@@ -7,8 +7,8 @@ use lib.ListN.{getD, replicate}
 use Rattle.boards.specs.Lists.{any}
 use Rattle.boards.specs.Boards.{has, with-board, meets, within, beyond, Links, link}
 use Rattle.boards.specs.Rows.{links-of, rows-of, emptied}
-use Rattle.protocol.specs.declared.Record.{Record}
-use Rattle.protocol.specs.declared.Commit.{Commit}
+use Rattle.volatile.specs.declared.Record.{Record}
+use Rattle.volatile.specs.declared.Commit.{Commit}
 
 unfoldable pub closed : Commit
 closed = record { starter = 0; members = 0; acknowledged = 0 }

@@ -1,9 +1,9 @@
 -- `Record::left_open` meets its contract: none is left if members meet the group.
 use mathlib.Core.Path.{_∙_, sym}
-use Rattle.protocol.specs.Volatile.{left-open, closed}
+use Rattle.volatile.specs.Volatile.{left-open, closed}
 use Rattle.boards.proofs.Basics.{if-true, if-false}
-use Rattle.protocol.proofs.Record.left_open.Statement.{statement}
-use Rattle.protocol.proofs.Record.left_open.Tie as tie
+use Rattle.volatile.proofs.Record.left_open.Statement.{statement}
+use Rattle.volatile.proofs.Record.left_open.Tie as tie
 
 meet-requires : tie.Need-meet-requires
 meet-requires c κs = tt

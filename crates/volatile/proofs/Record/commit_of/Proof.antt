@@ -1,8 +1,8 @@
 -- `Record::commit_of` meets its contract.
 use mathlib.Core.Path.{refl}
-use Rattle.protocol.specs.Volatile.{commit-of}
-use Rattle.protocol.proofs.Record.commit_of.Statement.{statement}
-use Rattle.protocol.proofs.Record.commit_of.Tie as tie
+use Rattle.volatile.specs.Volatile.{commit-of}
+use Rattle.volatile.proofs.Record.commit_of.Statement.{statement}
+use Rattle.volatile.proofs.Record.commit_of.Tie as tie
 
 returns : tie.Need-returns
 unfolding commit-of

@@ -1,9 +1,9 @@
 -- `Record::fresh` meets its contract.
 use mathlib.Core.Path.{refl}
-use Rattle.protocol.specs.Volatile.{fresh}
-use Rattle.protocol.proofs.Records.{record-same}
-use Rattle.protocol.proofs.Record.fresh.Statement.{statement}
-use Rattle.protocol.proofs.Record.fresh.Tie as tie
+use Rattle.volatile.specs.Volatile.{fresh}
+use Rattle.volatile.proofs.Records.{record-same}
+use Rattle.volatile.proofs.Record.fresh.Statement.{statement}
+use Rattle.volatile.proofs.Record.fresh.Tie as tie
 
 closed-requires : tie.Need-closed-requires
 closed-requires c κs = tt

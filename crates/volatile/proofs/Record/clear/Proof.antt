@@ -1,8 +1,8 @@
 -- `Record::clear` meets its contract: the rows are those that the group brings.
-use Rattle.protocol.specs.Volatile.{clear}
-use Rattle.protocol.proofs.Records.{record-same}
-use Rattle.protocol.proofs.Record.clear.Statement.{statement}
-use Rattle.protocol.proofs.Record.clear.Tie as tie
+use Rattle.volatile.specs.Volatile.{clear}
+use Rattle.volatile.proofs.Records.{record-same}
+use Rattle.volatile.proofs.Record.clear.Statement.{statement}
+use Rattle.volatile.proofs.Record.clear.Tie as tie
 
 left-open-requires : tie.Need-left-open-requires
 left-open-requires c κs = tt
