@@ -1,6 +1,5 @@
 -- `put_tag` meets its contract: nothing for the writer's own block, else one store.
 use mathlib.Core.Path.{refl}
-use borrow.Author.Needs.{needs}
 use native.Mathlib.Omega.{arith}
 use Rattle.protocol.specs.Image.{total}
 use Rattle.layout.proofs.Laws.{bounded}
@@ -10,7 +9,7 @@ use Rattle.access.proofs.put_tag.Statement.{statement}
 use Rattle.access.proofs.put_tag.Tie as tie
 
 block-tag-requires : tie.Need-block-tag-requires
-block-tag-requires c κs = search needs
+block-tag-requires c κs = (c .before .before .pre .0, c .before .before .pre .1, c .before .before .pre .2)
 
 add-own : tie.Need-add-own
 add-own c = omega arith
@@ -38,7 +37,7 @@ store-requires c κs =
     omega (arith, start .pre .1, block-of (start .args .s) (start .args .cell) (start .pre .0) (start .pre .2))
 
 same-length-2 : tie.Need-same-length-2
-same-length-2 c = search needs
+same-length-2 c = c .before .image .given
 
 returns-2 : tie.Need-returns-2
 returns-2 c =

@@ -1,7 +1,6 @@
 -- `read_tests` meets its contract: the four tests in their order.
 use mathlib.Core.Path.{sym, _∙_, ap}
 use mathlib.Core.List.{[]}
-use borrow.Author.Needs.{needs}
 use native.Mathlib.Omega.{arith}
 use denote.Ref.{now}
 use Rattle.boards.specs.Boards.{has}
@@ -15,7 +14,7 @@ use Rattle.access.proofs.read_tests.Statement.{statement}
 use Rattle.access.proofs.read_tests.Tie as tie
 
 bad-range-requires : tie.Need-bad-range-requires
-bad-range-requires c κs = search needs
+bad-range-requires c κs = c .before .pre .0
 
 returns : tie.Need-returns
 returns c =

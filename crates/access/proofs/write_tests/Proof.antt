@@ -1,6 +1,5 @@
 -- `write_tests` meets its contract: the three tests in their order.
 use mathlib.Core.Path.{refl, sym, _∙_, ap}
-use borrow.Author.Needs.{needs}
 use native.Mathlib.Omega.{arith}
 use denote.Ref.{now}
 use Rattle.boards.specs.Boards.{has, tagged-in}
@@ -12,7 +11,7 @@ use Rattle.access.proofs.write_tests.Statement.{statement}
 use Rattle.access.proofs.write_tests.Tie as tie
 
 bad-range-requires : tie.Need-bad-range-requires
-bad-range-requires c κs = search needs
+bad-range-requires c κs = c .before .pre .0
 
 returns : tie.Need-returns
 returns c =
