@@ -78,7 +78,7 @@ fn block_tag(image: &[u8], s: Shape, cell: usize) -> u8
     image[12 + b]
 }
 
-// What a read tests after the common tests: 2, 5, 11 for the block's tag, 13.
+// What a read tests after the first tests: 2, 5, 11 for the block's tag, 13.
 fn read_tests(
     image: &[u8],
     s: Shape,
@@ -148,7 +148,7 @@ pub fn read(
     finish(0, none, false, 0, next)
 }
 
-// What a write tests after the common tests: 2, 11 for the block's tag, 13 for a member and for a member's block.
+// What a write tests after the first tests: 2, 11 for the block's tag, 13 for a member and for a member's block.
 fn write_tests(image: &[u8], s: Shape, state: Record, board: usize, cell: usize, n: usize) -> u8
     requires { ⌜ (allowed s ≡ true) × (length (now image) ≡ total s) × (board < s .boards) ⌝ }
     ensures { λ r. ⌜ r ≡ first (write-tests s (view s (now (image .entry))) state board cell n) ⌝ }

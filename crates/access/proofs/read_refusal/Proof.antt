@@ -1,4 +1,4 @@
--- `read_refusal` meets its contract: the common tests, then those of a read.
+-- `read_refusal` meets its contract: the first tests, then those of a read.
 use mathlib.Core.Path.{sym, _∙_}
 use native.Mathlib.Omega.{arith}
 use denote.Ref.{now}

@@ -1,4 +1,4 @@
--- `write_refusal` meets its contract: the common tests, then those of a write.
+-- `write_refusal` meets its contract: the first tests, then those of a write.
 use mathlib.Core.Path.{sym, _∙_}
 use native.Mathlib.Omega.{arith}
 use denote.Ref.{now}
