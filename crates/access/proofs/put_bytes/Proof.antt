@@ -1,6 +1,7 @@
 -- `put_bytes` meets its contract: the tag, then the bytes.
 use Prim.Native.Nat.{ℕ, _+_}
-use mathlib.Core.Path.{ap, _∙_}
+use mathlib.Core.Path.{ap}
+use borrow.Author.Needs.{needs}
 use native.Mathlib.Omega.{arith}
 use denote.Ref.{now}
 use Rattle.protocol.specs.Image.{total, base}
@@ -10,29 +11,28 @@ use Rattle.access.proofs.put_bytes.Statement.{statement}
 use Rattle.access.proofs.put_bytes.Tie as tie
 
 current-at-requires : tie.Need-current-at-requires
-current-at-requires c κs = c .before .before .pre .0 .0
+current-at-requires c κs = search needs
 
 add-at : tie.Need-add-at
 unfolding base
 add-at c = omega (arith, bounded (c .before .before .before .pre .0 .0))
 
 put-tag-requires : tie.Need-put-tag-requires
-put-tag-requires c κs = c .before .before .before .before .pre .0
+put-tag-requires c κs = search needs
 
 put-all-requires : tie.Need-put-all-requires
 unfolding base total
 put-all-requires c κs = omega arith
 
 same-length : tie.Need-same-length
-same-length c = c .before .image2 .given ∙ c .before .before .before .before .before .image .given
+same-length c = search needs
 
 returns : tie.Need-returns
 returns c =
     let bank = c .before .before .before .before .before .before .before .before in
     let args = bank .before .before .before .args in
     let at = ap (λ (x : ℕ). x + args .cell) (bank .current-at .ensures) in
-    tag-then (args .cell) (args .i) (now (args .bytes)) at
-    (c .before .before .before .before .before .before .put-tag .ensures) (c .before .before .put-all .ensures)
+    search tag-then
 
 pub put-bytes-spec : {M : Type 1} → statement M
 put-bytes-spec =
