@@ -1,20 +1,20 @@
 -- A read and a write, refused and done.
 use Prim.Native.Nat.{ℕ, zero, suc, _+_, _/_, _≤_, _<_}
 use mathlib.Core.Path.{_≡_, refl, sym, _∙_, ap, ap₂}
-use mathlib.Core.Bool.{true, false, cond}
+use mathlib.Core.Bool.{false}
 use mathlib.Core.List.{List, [], _∷_, _++_}
 use mathlib.Core.Logic.{_≢_}
-use lib.ListN.{length, getD, drop}
+use lib.ListN.{length, getD}
 use lib.Seq.{take-nil}
 use native.Mathlib.Nat.{sub-self}
 use native.Mathlib.Omega.{arith}
 use borrow.Author.Tests.{ne-eqb, le-ltb}
 use Rattle.boards.specs.Lists.{span, anyOf}
 use Rattle.protocol.specs.Accesses.{touched, one-way, two-way, read-binding, write-binding, bind-tag}
-use Rattle.protocol.specs.Image.{Tags, Current, size, base, view, shape-of}
+use Rattle.protocol.specs.Image.{Current, size, base, view}
 use Rattle.volatile.specs.Volatile.{depend}
-use Rattle.protocol.specs.Calls.{Read, Write, refusals, refusal-at, tagging, placing, plan, refused, record-refused}
-use Rattle.protocol.specs.Calls.{executed, decides, perform, filled}
+use Rattle.protocol.specs.Calls.{Read, Write, refusal-at, tagging, placing, plan, refused, record-refused}
+use Rattle.protocol.specs.Calls.{executed, perform, filled}
 use Rattle.protocol.specs.declared.Shape.{Shape}
 use Rattle.volatile.specs.declared.Record.{Record}
 use Rattle.protocol.specs.declared.Reply.{Reply}
@@ -29,10 +29,10 @@ use Rattle.store.specs.Promise.{Answered, Performed, reply-of}
 use Rattle.protocol.specs.Calls.{refusal-of}
 use Rattle.store.proofs.Ends.{ended, turned}
 use Rattle.access.specs.Filled.{filled-from}
-use Rattle.access.specs.Tags.{tag-at}
-use Rattle.access.proofs.Touched.{touched-one, bind-one}
-use Rattle.access.proofs.Written.{some-decide-not}
-use Rattle.access.proofs.Tests.{Admitted, refusal-of-shape}
+use Rattle.admission.specs.Tags.{tag-at}
+use Rattle.admission.proofs.Touched.{touched-one, bind-one}
+use Rattle.protocol.proofs.Plans.{inside-quiet}
+use Rattle.admission.proofs.Tests.{Admitted, refusal-of-shape}
 
 -- ---- a read
 
@@ -112,5 +112,5 @@ module _ (image : List ℕ) (r : Record) (i a : ℕ) (bytes : List ℕ) (k : ℕ
       (start k) image left after
       = rw (touched-one s a (length bytes) (ok .range)) m
       in
-      let p = ended r (Write i a bytes) (ok .shape) z (stored .makes) false (some-decide-not s k inside) in
+      let p = ended r (Write i a bytes) (ok .shape) z (stored .makes) false (inside-quiet s k inside) in
       record { reply = g ∙ ap (reply-of k left false 0) bound ∙ p .reply; image = p .image }

@@ -1,16 +1,14 @@
 -- Links by tags, and a buffer filled byte by byte.
 use Prim.Native.Nat.{ℕ, zero, suc, _+_, _-_, _≤_, _<_}
-use mathlib.Core.Path.{_≡_, refl, sym, _∙_, ap, subst}
-use mathlib.Core.Bool.{true, false}
-use mathlib.Core.List.{List, [], _∷_, _++_}
-use lib.Dec.{eqb}
+use mathlib.Core.Path.{_≡_, refl, sym, _∙_}
+use mathlib.Core.List.{List}
 use lib.ListN.{length, getD, drop, set, length-append, length-drop}
 use lib.Seq.{drop-cons, set-at, append-snoc}
 use native.Mathlib.Omega.{arith}
 use native.Mathlib.Numerals.{add-one}
 use borrow.Author.Tests.{eq-eqb, ne-eqb}
 use Rattle.boards.specs.Lists.{span}
-use Rattle.protocol.specs.Accesses.{Binding, one-way, two-way, bind-tag, bind-boards}
+use Rattle.protocol.specs.Accesses.{Binding, bind-tag, bind-boards}
 use Rattle.volatile.specs.Volatile.{depend}
 use Rattle.volatile.specs.declared.Record.{Record}
 use Rattle.boards.proofs.Basics.{length-span}

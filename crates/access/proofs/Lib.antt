@@ -1,5 +1,3 @@
 pub mod Laws
-pub mod Touched
-pub mod Tests
 pub mod Written
 pub mod Answers

@@ -1,21 +1,14 @@
--- The stores of a write: the tag if it differs, then the bytes. None of them decides.
-use Prim.Native.Nat.{ℕ, suc, _+_, _/_, _<_}
-use mathlib.Core.Path.{_≡_, refl, sym, _∙_, ap, subst}
-use mathlib.Core.Bool.{true, false, cond}
-use mathlib.Core.List.{List, [], _∷_, _++_, map}
+-- The stores of a write: the tag if it differs, then the bytes.
+use Prim.Native.Nat.{ℕ, suc, _+_, _/_}
+use mathlib.Core.Path.{_≡_, sym, subst}
+use mathlib.Core.List.{List, [], _∷_, _++_}
 use mathlib.Core.Logic.{_≢_}
-use lib.Dec.{eqb}
-use lib.ListN.{take}
 use native.Mathlib.Omega.{arith}
 use native.Mathlib.Numerals.{add-one}
 use borrow.Author.Tests.{eq-eqb, ne-eqb}
-use Rattle.boards.specs.Lists.{anyOf}
-use Rattle.protocol.specs.Image.{Tags, Current, Put, raw, rank, base, view}
-use Rattle.protocol.specs.Calls.{tagging, placing, decides}
+use Rattle.protocol.specs.Image.{Current, raw, base, view}
+use Rattle.protocol.specs.Calls.{tagging, placing}
 use Rattle.protocol.specs.declared.Shape.{Shape}
-use Rattle.boards.proofs.Basics.{All, none, also, all-take, take-map, false-or, false-and}
-use Rattle.protocol.proofs.Bridge.{decides-raw}
-use Rattle.protocol.proofs.Copies.{Inside}
 use Rattle.store.specs.Budget.{Makes, one}
 use Rattle.store.specs.Runs.{put-stores}
 use Rattle.store.specs.declared.Budget.{Budget}
@@ -23,7 +16,7 @@ use Rattle.store.proofs.Laws.{makes-none}
 use Rattle.store.proofs.Areas.{placing-stores}
 use Rattle.store.specs.Puts.{Puts}
 use Rattle.store.proofs.Chains.{then-puts}
-use Rattle.access.specs.Tags.{tag-at}
+use Rattle.admission.specs.Tags.{tag-at}
 
 module _ {s : Shape} {x : List ℕ} {k : Budget} (a i : ℕ) {tag : ℕ} (read : tag ≡ tag-at s (view s x) a) where
   pub tag-kept : tag ≡ i + 1 → Puts s (tagging (view s x) i (a / s .size ∷ [])) k x k x
@@ -42,16 +35,3 @@ pub tag-then : {s : Shape} {k r r′ : Budget} {x y z : List ℕ} (a i : ℕ) {a
 tag-then {s} {r = r} {r′ = r′} {x = x} {y = y} {z = z} a i {at} bytes e p m =
     then-puts (tagging (view s x) i (a / s .size ∷ [])) (placing Current a bytes) p
     (record { makes = subst (λ ss. Makes ss r y r′ z) (sym (placing-stores s Current a at bytes e)) m })
-
--- stores past the header's areas do not decide
-none-decides : {s : Shape} {ps : List Put} → All (Inside s) ps → anyOf decides (map (raw s) ps) ≡ false
-unfolding anyOf
-none-decides none = refl
-none-decides {s} (also {x = p} h hs) =
-    false-or
-    (decides-raw s p (record { body = omega arith; within = h .inside })
-    ∙ false-and (eqb (p .value) 1) (ne-eqb (rank (p .area)) 1 (λ e. omega arith)))
-    (none-decides hs)
-
-pub some-decide-not : (s : Shape) (k : ℕ) {ps : List Put} → All (Inside s) ps → false ≡ anyOf decides (take k (map (raw s) ps))
-some-decide-not s k {ps} h = sym (ap (anyOf decides) (take-map k (raw s) ps) ∙ none-decides (all-take k h))

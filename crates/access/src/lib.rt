@@ -1,8 +1,7 @@
 // Reads and writes.
-use boards::sets::has;
-use boards::sets::tagged_in;
-use entry::bad_range;
-use entry::entry_refusal;
+use admission::block_tag;
+use admission::read_refusal;
+use admission::write_refusal;
 use layout::current_at;
 use layout::shape_of;
 use protocol::Reply;
@@ -16,16 +15,15 @@ use volatile::Record;
 ghost use mathlib.Core.Path.{_≡_};
 ghost use mathlib.Core.Bool.{true};
 ghost use mathlib.Core.List.{[], _∷_, _++_};
-ghost use Prim.Native.Nat.{ℕ, _+_, _*_, _/_, _≤_, _<_};
+ghost use Prim.Native.Nat.{_+_, _*_, _/_, _≤_, _<_};
 ghost use lib.ListN.{length};
 ghost use Rattle.protocol.specs.Image.{Current, allowed, total, view};
 ghost use Rattle.volatile.specs.Volatile.{depend};
 ghost use Rattle.protocol.specs.Accesses.{one-way, two-way, bind-tag};
-ghost use Rattle.protocol.specs.Calls.{Read, Write, first, refusal-at, read-tests, write-tests, tagging, placing};
+ghost use Rattle.protocol.specs.Calls.{Read, Write, tagging, placing};
 ghost use Rattle.store.specs.Puts.{Puts};
 ghost use Rattle.store.specs.Promise.{Performed, Answered};
 ghost use Rattle.access.specs.Filled.{filled-from};
-ghost use Rattle.access.specs.Tags.{tag-at};
 
 // A read of a block with this tag: the board comes to depend on the writer, if that is another board.
 fn bind_read(state: Record, i: u8, tag: u8) -> Record
@@ -69,57 +67,6 @@ fn fill(image: &[u8], at: usize, n: usize, buffer: &mut [u8])
     }
 }
 
-// The tag of the block at a cell.
-fn block_tag(image: &[u8], s: Shape, cell: usize) -> u8
-    requires { ⌜ (allowed s ≡ true) × (length (now image) ≡ total s) × (cell < s .blocks * s .size) ⌝ }
-    ensures { λ r. ⌜ r ≡ tag-at s (view s (now (image .entry))) cell ⌝ }
-{
-    let b = cell / s.size;
-    image[12 + b]
-}
-
-// What a read tests after the first tests: 2, 5, 11 for the block's tag, 13.
-fn read_tests(
-    image: &[u8],
-    s: Shape,
-    state: Record,
-    board: usize,
-    cell: usize,
-    n: usize,
-    room: usize,
-) -> u8
-    requires { ⌜ (allowed s ≡ true) × (length (now image) ≡ total s) × (board < s .boards) ⌝ }
-    ensures { λ r. ⌜ r ≡ first (read-tests s (view s (now (image .entry))) state board cell n room) ⌝ }
-{
-    if bad_range(s, cell, n) {
-        return 2;
-    }
-    if n > room {
-        return 5;
-    }
-    let tag = block_tag(image, s, cell);
-    if tag as usize > s.boards {
-        return 11;
-    }
-    let members = state.engaged();
-    if has(members, board as u8) {
-        return 13;
-    }
-    0
-}
-
-// A read's refusal, 0 for none.
-fn read_refusal(image: &[u8], state: Record, board: usize, cell: usize, n: usize, room: usize) -> u8
-    ensures { λ r. ⌜ r ≡ refusal-at (now (image .entry)) state (Read board cell n room) ⌝ }
-{
-    let early = entry_refusal(image, state, board);
-    if early != 0 {
-        return early;
-    }
-    let s = shape_of(image);
-    read_tests(image, s, state, board, cell, n, room)
-}
-
 // The first n bytes of the buffer become the current bytes from the cell on; the board comes to depend on their writer.
 pub fn read(
     image: &[u8],
@@ -146,40 +93,6 @@ pub fn read(
         cut: false,
     };
     finish(0, none, false, 0, next)
-}
-
-// What a write tests after the first tests: 2, 11 for the block's tag, 13 for a member and for a member's block.
-fn write_tests(image: &[u8], s: Shape, state: Record, board: usize, cell: usize, n: usize) -> u8
-    requires { ⌜ (allowed s ≡ true) × (length (now image) ≡ total s) × (board < s .boards) ⌝ }
-    ensures { λ r. ⌜ r ≡ first (write-tests s (view s (now (image .entry))) state board cell n) ⌝ }
-{
-    if bad_range(s, cell, n) {
-        return 2;
-    }
-    let tag = block_tag(image, s, cell);
-    if tag as usize > s.boards {
-        return 11;
-    }
-    let members = state.engaged();
-    if has(members, board as u8) {
-        return 13;
-    }
-    if tagged_in(members, tag) {
-        return 13;
-    }
-    0
-}
-
-// A write's refusal, 0 for none.
-fn write_refusal(image: &[u8], state: Record, board: usize, cell: usize, bytes: &[u8]) -> u8
-    ensures { λ r. ⌜ r ≡ refusal-at (now (image .entry)) state (Write board cell (now (bytes .entry))) ⌝ }
-{
-    let early = entry_refusal(image, state, board);
-    if early != 0 {
-        return early;
-    }
-    let s = shape_of(image);
-    write_tests(image, s, state, board, cell, bytes.len())
 }
 
 // The tag of the block at a cell, if it is not the writer's.

@@ -1,16 +1,16 @@
 -- One block and one context: the stores of the leaves are the puts of the definitions.
-use Prim.Native.Nat.{ℕ, zero, suc, _+_, _-_, _*_, _/_, _%_, _≤_, _<_}
+use Prim.Native.Nat.{ℕ, zero, suc, _+_, _-_, _*_, _≤_, _<_}
 use native.Mathlib.Nat.{mul-le-mul-right, suc-mul, add-zero, add-suc}
-use mathlib.Core.Path.{_≡_, refl, sym, _∙_, ap, subst}
+use mathlib.Core.Path.{_≡_, refl, sym, subst}
 use mathlib.Core.Bool.{Bool, true, false, not, cond}
-use mathlib.Core.List.{List, [], _∷_, _++_, map, map-append}
+use mathlib.Core.List.{List, [], _∷_, map-append}
 use mathlib.Core.Logic.{_⊎_, inl, inr, _≢_}
 use native.Mathlib.Numerals.{add-one}
 use native.Mathlib.Omega.{arith}
 use lib.ListN.{length, getD, drop}
 use Rattle.boards.specs.Lists.{for}
 use Rattle.boards.specs.Boards.{has, tagged-in}
-use Rattle.protocol.specs.Image.{Area, Decision, Group, Tags, Current, Recovery, Tentative, Checkpoint, Put, put, raw}
+use Rattle.protocol.specs.Image.{Decision, Tags, Current, Tentative, Checkpoint, put, raw}
 use Rattle.protocol.specs.Image.{rank, base, size, view, total}
 use Rattle.protocol.specs.Calls.{copying, block-copied, context-saved}
 use Rattle.protocol.specs.declared.Shape.{Shape}
@@ -86,13 +86,7 @@ module _ {s : Shape} {x : List ℕ} (g i : ℕ) {k : Budget} where
       let same = copying-lent s x Tentative Checkpoint i₀ (s .context) at 0 all (context-fits s i l) (omega arith) (omega arith) in
       record { makes = rw e (subst (λ ss. Makes ss k x r y) (sym same) m) }
 
--- ---- bytes 9, 10 and 11
-
-pub announced : (s : Shape) (g : ℕ) {k r r′ r″ : Budget} {x y z w : List ℕ} → Makes (one 10 (g % 256) ∷ []) k x r y
-    → Makes (one 11 (g / 256) ∷ []) r y r′ z → Makes (one 9 1 ∷ []) r′ z r″ w
-    → Puts s (put Group 0 (g % 256) ∷ put Group 1 (g / 256) ∷ put Decision 0 1 ∷ []) k x r″ w
-unfolding raw base
-announced s g m n t = record { makes = makes-then m (makes-then n t) }
+-- ---- byte 9
 
 pub cleared : (s : Shape) {k r : Budget} {x y : List ℕ} → Makes (one 9 0 ∷ []) k x r y → Puts s (put Decision 0 0 ∷ []) k x r y
 unfolding raw base

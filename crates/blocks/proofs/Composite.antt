@@ -1,29 +1,27 @@
 -- The parts of a commit and of a power-up, one after the other, are the plans of the definitions.
-use Prim.Native.Nat.{ℕ, zero, suc, _+_, _*_, _/_, _%_, _≤_, _<_}
-use mathlib.Core.Path.{_≡_, refl, sym, _∙_, ap, subst, fun-ext}
-use mathlib.Core.Bool.{Bool, true, false, cond}
+use Prim.Native.Nat.{ℕ, _+_, _*_}
+use mathlib.Core.Path.{_≡_, ap, subst, fun-ext}
+use mathlib.Core.Bool.{Bool, cond}
 use mathlib.Core.List.{List, [], _∷_, _++_}
 use native.Mathlib.Omega.{arith}
 use native.Mathlib.Nat.{le-refl}
-use lib.Dec.{eqb, ltb}
+use lib.Dec.{eqb}
 use lib.ListN.{length}
-use borrow.Author.Tests.{le-ltb}
 use Rattle.boards.specs.Lists.{for, span}
 use Rattle.boards.specs.Boards.{has}
-use Rattle.protocol.specs.Image.{Area, Decision, Group, Tags, Current, Recovery, Tentative, Checkpoint, Memory, Put}
-use Rattle.protocol.specs.Image.{put, rank, size, change, after, view, total}
-use Rattle.protocol.specs.Calls.{stored-group, placing, copying, block-copied, blocks-copied, context-saved, completing}
-use Rattle.protocol.specs.Calls.{deciding, completed-first, recovering}
+use Rattle.protocol.specs.Image.{Decision, Current, Recovery, Checkpoint, Memory}
+use Rattle.protocol.specs.Image.{put, rank, after, view, total}
+use Rattle.protocol.specs.Calls.{stored-group, placing, copying, blocks-copied, context-saved, completing}
+use Rattle.protocol.specs.Calls.{completed-first, recovering}
 use Rattle.boards.specs.Boards.{tagged-in, tagged}
 use Rattle.protocol.specs.declared.Shape.{Shape}
-use Rattle.boards.proofs.Basics.{All, none, also, all-cond}
+use Rattle.boards.proofs.Basics.{All, none, all-cond}
 use Rattle.protocol.proofs.Memory.{untouched, else-area}
 use Rattle.protocol.proofs.Bridge.{Valid}
 use Rattle.protocol.proofs.Copies.{all-blocks, recovery}
 use Rattle.protocol.proofs.Plans.{completing-valid}
 use Rattle.store.specs.Budget.{WellBudget}
 use Rattle.store.specs.declared.Budget.{Budget}
-use Rattle.store.proofs.Laws.{makes-well, makes-length}
 use Rattle.store.specs.Puts.{Puts}
 use Rattle.store.proofs.Chains.{then-puts, then-reads}
 use Rattle.blocks.proofs.Rounds.{blocks-valid}
@@ -39,24 +37,6 @@ contexts-later s m chosen g =
 pub first-valid : (s : Shape) (m : Memory) → All (Valid s) (completed-first s m)
 unfolding completed-first
 first-valid s m = all-cond (eqb (m Decision 0) 1) (λ e. completing-valid s m (stored-group m)) (λ e. none)
-
--- bytes 10, 11 and 9, and what follows them
-abbrev group-puts : ℕ → List Put
-group-puts g = put Group 0 (g % 256) ∷ put Group 1 (g / 256) ∷ put Decision 0 1 ∷ []
-
-group-valid : (s : Shape) (g : ℕ) → All (Valid s) (group-puts g)
-unfolding rank size
-group-valid s g = also (two 0 (g % 256) (omega arith)) (also (two 1 (g / 256) (omega arith)) (also deciding-byte none))
-  where
-    two : (i v : ℕ) → i < 2 → Valid s (put Group i v)
-    two i v l = record { body = omega arith; within = l }
-
-    deciding-byte : Valid s (put Decision 0 1)
-    deciding-byte = record { body = omega arith; within = omega arith }
-
-deciding-later : (s : Shape) (m : Memory) (g : ℕ) → group-puts g ++ completing s (after (group-puts g) m) g ≡ deciding s m g
-unfolding deciding completing blocks-copied block-copied context-saved copying after change rank
-deciding-later s m g = refl
 
 module _ {s : Shape} {x : List ℕ} (long : length x ≡ total s) {b : Budget} (well : WellBudget b) where
   -- the completion of a commit
@@ -82,14 +62,3 @@ module _ {s : Shape} {x : List ℕ} (long : length x ≡ total s) {b : Budget} (
   recovers p q =
       then-reads (completed-first s (view s x)) (λ m. blocks-copied s m Recovery Current tagged) long
       (first-valid s (view s x)) well p q
-
-  -- a commit: the context, bytes 10, 11 and 9, the completion
-  pub decides : (given : List Put) (g : ℕ) {r r′ r″ : Budget} {y z w : List ℕ} → All (Valid s) given
-      → Puts s given b x r y
-      → Puts s (put Group 0 (g % 256) ∷ put Group 1 (g / 256) ∷ put Decision 0 1 ∷ []) r y r′ z
-      → Puts s (completing s (view s z) g) r′ z r″ w
-      → Puts s (given ++ deciding s (after given (view s x)) g) b x r″ w
-  decides given g {r} {r″ = r″} {y = y} {w = w} valid p q t =
-      then-reads given (λ m. deciding s m g) long valid well p
-      (subst (λ ps. Puts s ps r y r″ w) (deciding-later s (view s y) g)
-      (then-reads (group-puts g) (λ m. completing s m g) (makes-length (p .makes) ∙ long) (group-valid s g) (makes-well (p .makes) well) q t))

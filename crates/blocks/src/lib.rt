@@ -9,11 +9,10 @@ use store::copy_at;
 use store::store;
 ghost use mathlib.Core.Path.{_≡_};
 ghost use mathlib.Core.Bool.{true, false, cond};
-ghost use mathlib.Core.List.{[], _∷_};
-ghost use Prim.Native.Nat.{ℕ, _+_, _≤_, _<_, _%_, _/_};
+ghost use Prim.Native.Nat.{ℕ, _+_, _≤_, _<_};
 ghost use lib.ListN.{length, getD};
 ghost use Rattle.boards.specs.Lists.{for};
-ghost use Rattle.protocol.specs.Image.{allowed, total, view, put, Decision, Group};
+ghost use Rattle.protocol.specs.Image.{allowed, total, view};
 ghost use Rattle.protocol.specs.Calls.{context-saved, completing};
 ghost use Rattle.store.specs.Budget.{WellBudget};
 ghost use Rattle.store.specs.Puts.{Puts};
@@ -117,15 +116,4 @@ pub fn complete(image: &mut [u8], s: Shape, g: u16, k: Budget) -> Budget
     let saved = copy_blocks(image, s, g, true, k);
     let kept = copy_contexts(image, s, g, saved);
     store(image, 9, 0, kept)
-}
-
-// Bytes 10 and 11, then byte 9 set to 1, which decides.
-pub fn announce(image: &mut [u8], s: Shape, g: u16, k: Budget) -> Budget
-    requires { ⌜ (allowed s ≡ true) × (length (now image) ≡ total s) ⌝ }
-    ensures { λ r. ⌜ Puts s (put Group 0 (g % 256) ∷ put Group 1 (g / 256) ∷ put Decision 0 1 ∷ []) k
-        (now (image .entry)) r (now (image .exit)) ⌝ }
-{
-    let low = store(image, 10, (g % 256) as u8, k);
-    let high = store(image, 11, (g / 256) as u8, low);
-    store(image, 9, 1, high)
 }

@@ -1,11 +1,16 @@
-// A call cut at every k and powered up, where the power-up is cut at every k too and made again. The images lent here
-// have one length.
-use crate::bench::copy;
-use crate::calls::call;
-use crate::tell;
-use crate::text::Request;
+// A call cut at every k and powered up, where the power-up is cut at every k too and made again.
+use crate::area::BEFORE;
+use crate::area::CUT;
+use crate::area::OTHER;
+use crate::area::copy;
+use bench::calls::call;
+use bench::tell;
+use bench::text::Request;
+use protocol::Answer;
 use protocol::Reply;
 use volatile::Record;
+ghost use Prim.Native.Nat.{_≤_};
+ghost use lib.ListN.{length};
 
 // More than any call stores.
 const ENOUGH: usize = 99999;
@@ -17,19 +22,12 @@ struct Tally {
     neither: usize,
 }
 
-// The call of a request's capital letter, cut at k.
-fn cut_call(image: &mut [u8], state: Record, r: Request, source: &[u8], k: usize) -> Reply {
-    let asked = Request {
-        letter: r.letter % 32 + 64,
-        k,
-        a: r.a,
-        b: r.b,
-        c: r.c,
-        d: r.d,
-        e: r.e,
-    };
+// The call of a request, cut at k.
+fn cut_call(image: &mut [u8], state: Record, r: Request, k: usize) -> Reply {
+    let mut asked = r;
+    asked.k = k;
     let mut buffer = [0u8; 1];
-    call(image, state, asked, source, &mut buffer)
+    call(image, state, asked, &mut buffer)
 }
 
 fn more(n: usize) -> usize {
@@ -37,25 +35,17 @@ fn more(n: usize) -> usize {
 }
 
 fn counted(t: Tally, as_before: bool, as_after: bool) -> Tally {
+    let mut next = t;
     if as_before {
-        return Tally {
-            before: more(t.before),
-            after: t.after,
-            neither: t.neither,
-        };
+        next.before = more(t.before);
+        return next;
     }
     if as_after {
-        return Tally {
-            before: t.before,
-            after: more(t.after),
-            neither: t.neither,
-        };
+        next.after = more(t.after);
+        return next;
     }
-    Tally {
-        before: t.before,
-        after: t.after,
-        neither: more(t.neither),
-    }
+    next.neither = more(t.neither);
+    next
 }
 
 // Power-up cut at k and, if it was, made again; whether the first was done.
@@ -69,24 +59,22 @@ fn power_up_twice(image: &mut [u8], k: usize) -> bool {
 }
 
 // Whether the image has the recovery state of the other and nothing is left to recover.
-fn recovered(image: &mut [u8], other: &[u8]) -> bool {
-    let again = recovery::power_up(image, 0);
+fn recovered(area: &mut [u8], other: usize, n: usize) -> bool
+    requires { ⌜ (144000 ≤ length (now area)) × (other ≤ 108000) × (n ≤ 36000) ⌝ }
+{
+    let again = recovery::power_up(&mut area[0..n], 0);
     if again.answer.status != 0 {
         return false;
     }
-    let answer = inspect::same(image, other);
+    let end = other + n;
+    let answer = inspect::same(&area[0..n], &area[other..end]);
     answer.same
 }
 
-// The tally with the image counted.
-fn counted_in(t: Tally, image: &mut [u8], before: &[u8], after: &[u8]) -> Tally {
-    let as_before = recovered(image, before);
-    let as_after = recovered(image, after);
-    counted(t, as_before, as_after)
-}
-
-// From the image in `cut`, power-ups cut at 0, 1, .. until one is done.
-fn every_power_up(image: &mut [u8], cut: &[u8], before: &[u8], after: &[u8]) -> Tally {
+// From the cut image, power-ups cut at 0, 1, .. until one is done.
+fn every_power_up(area: &mut [u8], n: usize) -> Tally
+    requires { ⌜ (144000 ≤ length (now area)) × (n ≤ 36000) ⌝ }
+{
     let mut t = Tally {
         before: 0,
         after: 0,
@@ -94,9 +82,11 @@ fn every_power_up(image: &mut [u8], cut: &[u8], before: &[u8], after: &[u8]) -> 
     };
     let mut k = 0;
     while k < 1000 {
-        copy(cut, image);
-        let done = power_up_twice(image, k);
-        t = counted_in(t, image, before, after);
+        copy(area, CUT, 0, n);
+        let done = power_up_twice(&mut area[0..n], k);
+        let as_before = recovered(area, BEFORE, n);
+        let as_after = recovered(area, OTHER, n);
+        t = counted(t, as_before, as_after);
         if done {
             return t;
         }
@@ -105,8 +95,7 @@ fn every_power_up(image: &mut [u8], cut: &[u8], before: &[u8], after: &[u8]) -> 
     t
 }
 
-fn tell_cut(reply: Reply, t: Tally) {
-    let answer = reply.answer;
+fn tell_cut(answer: Answer, t: Tally) {
     tell::answer(answer);
     io::write_all(1, b", powered up: before");
     tell::number(t.before as u64);
@@ -117,53 +106,36 @@ fn tell_cut(reply: Reply, t: Tally) {
     io::write_all(1, b"\n");
 }
 
-// The call cut at k from the image in `before`, and its power-ups; whether it was cut.
-fn one_cut(
-    image: &mut [u8],
-    before: &[u8],
-    after: &[u8],
-    cut: &mut [u8],
-    state: Record,
-    r: Request,
-    source: &[u8],
-    k: usize,
-) -> bool {
-    copy(before, image);
-    let reply = cut_call(image, state, r, source, k);
-    copy(image, cut);
-    let t = every_power_up(image, cut, before, after);
-    tell_cut(reply, t);
-    reply.answer.status == 9
+// The call cut at k from the image before it, and its power-ups; whether it was cut.
+fn one_cut(area: &mut [u8], n: usize, state: Record, r: Request, k: usize) -> bool
+    requires { ⌜ (144000 ≤ length (now area)) × (n ≤ 36000) ⌝ }
+{
+    copy(area, BEFORE, 0, n);
+    let reply = cut_call(&mut area[0..n], state, r, k);
+    let answer = reply.answer;
+    copy(area, 0, CUT, n);
+    let t = every_power_up(area, n);
+    tell_cut(answer, t);
+    answer.status == 9
 }
 
-// The call uncut and powered up, into `after`; the image as it was, into `before`.
-fn uncut(
-    image: &mut [u8],
-    before: &mut [u8],
-    after: &mut [u8],
-    state: Record,
-    r: Request,
-    source: &[u8],
-) {
-    copy(image, before);
-    cut_call(image, state, r, source, ENOUGH);
-    recovery::power_up(image, ENOUGH);
-    copy(image, after);
+// The image as it was, and the image after the call, uncut and powered up, to their parts.
+fn uncut(area: &mut [u8], n: usize, state: Record, r: Request)
+    requires { ⌜ (144000 ≤ length (now area)) × (n ≤ 36000) ⌝ }
+{
+    copy(area, 0, BEFORE, n);
+    cut_call(&mut area[0..n], state, r, ENOUGH);
+    recovery::power_up(&mut area[0..n], ENOUGH);
+    copy(area, 0, OTHER, n);
 }
 
 // The call cut at 0, 1, .. until it is done.
-fn cut_on(
-    image: &mut [u8],
-    before: &[u8],
-    after: &[u8],
-    cut: &mut [u8],
-    state: Record,
-    r: Request,
-    source: &[u8],
-) {
+fn cut_on(area: &mut [u8], n: usize, state: Record, r: Request)
+    requires { ⌜ (144000 ≤ length (now area)) × (n ≤ 36000) ⌝ }
+{
     let mut k = 0;
     while k < 1000 {
-        if !one_cut(image, before, after, cut, state, r, source, k) {
+        if !one_cut(area, n, state, r, k) {
             return;
         }
         k += 1;
@@ -171,16 +143,10 @@ fn cut_on(
 }
 
 // The image ends as it began.
-pub fn every_cut(
-    image: &mut [u8],
-    before: &mut [u8],
-    after: &mut [u8],
-    cut: &mut [u8],
-    state: Record,
-    r: Request,
-    source: &[u8],
-) {
-    uncut(image, before, after, state, r, source);
-    cut_on(image, before, after, cut, state, r, source);
-    copy(before, image);
+pub fn every_cut(area: &mut [u8], n: usize, state: Record, r: Request)
+    requires { ⌜ (144000 ≤ length (now area)) × (n ≤ 36000) ⌝ }
+{
+    uncut(area, n, state, r);
+    cut_on(area, n, state, r);
+    copy(area, BEFORE, 0, n);
 }

@@ -1,36 +1,38 @@
 // Plays one line.
-use crate::bench::Bench;
-use crate::bench::changed;
-use crate::bench::copy;
-use crate::calls::call;
+use crate::area::BEFORE;
+use crate::area::OTHER;
+use crate::area::PART;
+use crate::area::copy;
 use crate::cuts::every_cut;
-use crate::tell;
-use crate::text::Request;
-use crate::text::at_most;
-use crate::text::request_of;
+use bench::calls::call;
+use bench::records::changed;
+use bench::tell;
+use bench::text::Request;
+use bench::text::at_most;
+use bench::text::request_of;
+use volatile::Record;
+ghost use Prim.Native.Nat.{_≤_};
+ghost use lib.ListN.{length};
+
+// What stands between two requests: the record, and the length of the image that is lent.
+pub struct Bench {
+    pub state: Record,
+    pub length: usize,
+}
 
 // A call, its answer, and what changed.
-fn call_line(
-    image: &mut [u8],
-    before: &mut [u8],
-    r: Request,
-    source: &[u8],
-    bench: Bench,
-) -> Bench {
-    copy(image, before);
-    let old = bench.state;
+fn call_line(area: &mut [u8], n: usize, r: Request, old: Record) -> Record
+    requires { ⌜ (144000 ≤ length (now area)) × (n ≤ 36000) ⌝ }
+{
+    copy(area, 0, BEFORE, PART);
     let mut buffer = [tell::FILL; 80];
-    let length = at_most(bench.length, image.len());
-    let reply = call(&mut image[0..length], old, r, source, &mut buffer);
+    let reply = call(&mut area[0..n], old, r, &mut buffer);
     let answer = reply.answer;
     let next = reply.next;
     tell::answer(answer);
-    tell::changes(image, before, next, old);
+    tell::changes(&area[0..PART], &area[BEFORE..OTHER], next, old);
     tell::buffer(&buffer, r.c);
-    Bench {
-        state: next,
-        length,
-    }
+    next
 }
 
 fn context_line(image: &[u8], board: usize) {
@@ -51,44 +53,31 @@ fn same_line(image: &[u8], other: &[u8]) {
     io::write_all(1, b"\n");
 }
 
-// A change of the image, the record or the length lent, which is no call.
-fn change(image: &mut [u8], r: Request, bench: Bench) -> Bench {
-    let state = bench.state;
-    if r.letter == b'L' {
-        return Bench { state, length: r.k };
-    }
-    if r.letter == b'Q' {
-        let next = changed(state, r.k, (r.a % 65536) as u16);
-        return Bench {
-            state: next,
-            length: bench.length,
-        };
-    }
-    let at = r.k;
-    if at < image.len() {
-        image[at] = (r.a % 256) as u8;
-    }
-    bench
-}
-
-// A request that stores nothing by a call of the module.
-fn other_line(image: &mut [u8], other: &mut [u8], r: Request, bench: Bench) -> Bench {
-    let length = at_most(bench.length, image.len());
+// A line that is no call of the module but for Context and Same, and leaves the record.
+fn other_line(area: &mut [u8], n: usize, r: Request)
+    requires { ⌜ (144000 ≤ length (now area)) × (n ≤ 36000) ⌝ }
+{
     if r.letter == b'K' {
-        context_line(&image[0..length], r.a);
-        return bench;
+        context_line(&area[0..n], r.a);
+        return;
     }
     if r.letter == b'S' {
-        let reach = at_most(length, other.len());
-        same_line(&image[0..length], &other[0..reach]);
-        return bench;
+        let end = OTHER + n;
+        same_line(&area[0..n], &area[OTHER..end]);
+        return;
     }
     io::write_all(1, b"\n");
     if r.letter == b'M' {
-        copy(image, other);
-        return bench;
+        copy(area, 0, OTHER, PART);
+        return;
     }
-    change(image, r, bench)
+    if r.letter != b'P' {
+        return;
+    }
+    let at = r.k;
+    if at < PART {
+        area[at] = (r.a % 256) as u8;
+    }
 }
 
 fn is_call(letter: u8) -> bool {
@@ -98,72 +87,45 @@ fn is_call(letter: u8) -> bool {
     }
 }
 
-fn is_remark(letter: u8) -> bool {
-    letter == b'#'
-}
-
-// A small letter: the call of its capital, cut at every k.
-fn is_cut(letter: u8) -> bool {
-    letter >= b'a' && letter <= b'z'
-}
-
-fn cut_line(
-    image: &mut [u8],
-    before: &mut [u8],
-    other: &mut [u8],
-    spare: &mut [u8],
-    r: Request,
-    source: &[u8],
-    bench: Bench,
-) {
-    let n = at_most(bench.length, image.len());
-    let m = at_most(n, before.len());
-    let l = at_most(n, other.len());
-    let k = at_most(n, spare.len());
-    let state = bench.state;
-    every_cut(
-        &mut image[0..n],
-        &mut before[0..m],
-        &mut other[0..l],
-        &mut spare[0..k],
-        state,
-        r,
-        source,
-    );
-}
-
-// A format is lent an image of its own length.
-fn lent(r: Request, bench: Bench) -> Bench {
-    if r.letter != b'F' {
-        return bench;
+// The length lent for a line: F and L name one.
+fn lent(r: Request, length: usize) -> usize {
+    let letter = r.letter;
+    match letter {
+        b'F' => r.e,
+        b'L' => r.k,
+        _ => length,
     }
-    let state = bench.state;
-    Bench { state, length: r.e }
 }
 
-pub fn play_line(
-    line: &[u8],
-    image: &mut [u8],
-    before: &mut [u8],
-    other: &mut [u8],
-    spare: &mut [u8],
-    source: &[u8],
-    bench: Bench,
-) -> Bench {
+// Plays a request; the record after it.
+fn play_request(area: &mut [u8], n: usize, r: Request, state: Record) -> Record
+    requires { ⌜ (144000 ≤ length (now area)) × (n ≤ 36000) ⌝ }
+{
+    if is_call(r.letter) {
+        return call_line(area, n, r, state);
+    }
+    if r.letter >= b'a' && r.letter <= b'z' {
+        io::write_all(1, b"\n");
+        let mut asked = r;
+        asked.letter = r.letter % 32 + 64;
+        every_cut(area, n, state, asked);
+        return state;
+    }
+    other_line(area, n, r);
+    if r.letter == b'Q' {
+        return changed(state, r.k, (r.a % 65536) as u16);
+    }
+    state
+}
+
+pub fn play_line(line: &[u8], area: &mut [u8], bench: Bench) -> Bench
+    requires { ⌜ 144000 ≤ length (now area) ⌝ }
+{
     io::write_all(1, line);
     let r = request_of(line);
-    if is_remark(r.letter) {
-        io::write_all(1, b"\n");
-        return bench;
-    }
-    if is_call(r.letter) {
-        let next = lent(r, bench);
-        return call_line(image, before, r, source, next);
-    }
-    if is_cut(r.letter) {
-        io::write_all(1, b"\n");
-        cut_line(image, before, other, spare, r, source, bench);
-        return bench;
-    }
-    other_line(image, other, r, bench)
+    let length = lent(r, bench.length);
+    let n = at_most(length, PART);
+    let old = bench.state;
+    let state = play_request(area, n, r, old);
+    Bench { state, length }
 }

@@ -16,57 +16,33 @@
 //   L length                the image lent from now on has that length
 //   P at byte               that byte of the image becomes this
 //   Q place number          0 to 15: that row of the record; 16 on, 17 starter, 18 members, 19 acknowledged
-mod bench;
-mod calls;
+mod area;
 mod cuts;
 mod lines;
-mod tell;
-mod text;
 
-use bench::Bench;
-use text::after;
-use text::line_end;
+use bench::text::after;
+use bench::text::line_end;
+use lines::Bench;
+use volatile::Record;
+ghost use Prim.Native.Nat.{_≤_};
+ghost use lib.ListN.{length};
 
-fn play(
-    text: &[u8],
-    image: &mut [u8],
-    before: &mut [u8],
-    other: &mut [u8],
-    spare: &mut [u8],
-    source: &[u8],
-) {
-    let mut bench = Bench::new();
+fn play(text: &[u8], area: &mut [u8])
+    requires { ⌜ 144000 ≤ length (now area) ⌝ }
+{
+    let state = Record::off();
+    let mut bench = Bench { state, length: 0 };
     let mut at = 0;
     while at < text.len() {
         let end = line_end(text, at);
-        bench = lines::play_line(&text[at..end], image, before, other, spare, source, bench);
+        bench = lines::play_line(&text[at..end], area, bench);
         at = after(at, end, text.len());
-    }
-}
-
-fn count_up(source: &mut [u8]) {
-    let mut i = 0;
-    while i < source.len() {
-        source[i] = (i % 256) as u8;
-        i += 1;
     }
 }
 
 fn main() {
     let mut text = [0u8; 32768];
-    let mut image = [0u8; 36000];
-    let mut before = [0u8; 36000];
-    let mut other = [0u8; 36000];
-    let mut spare = [0u8; 36000];
-    let mut source = [0u8; 256];
-    count_up(&mut source);
+    let mut area = [0u8; 144000];
     let n = io::read_full(0, &mut text);
-    play(
-        &text[0..n],
-        &mut image,
-        &mut before,
-        &mut other,
-        &mut spare,
-        &source,
-    );
+    play(&text[0..n], &mut area);
 }

@@ -1,138 +1,31 @@
 -- The stores of an acknowledgement as its plan, when they decide, and the tests of the two calls in their order.
-use Prim.Native.Nat.{ℕ, _+_, _*_, _/_, _%_, _≤_, _<_}
-use mathlib.Core.Path.{_≡_, refl, sym, _∙_, ap, subst}
+use Prim.Native.Nat.{ℕ, _+_}
+use mathlib.Core.Path.{_≡_, sym, _∙_, ap, subst}
 use mathlib.Core.Bool.{true, false, not}
-use mathlib.Core.List.{List, [], _∷_, _++_, map, append-nil}
-use mathlib.Core.Logic.{⊎-elim, _≢_}
-use lib.Dec.{eqb, ltb}
-use lib.ListN.{length, take, length-map, length-append}
-use native.Mathlib.Omega.{arith}
-use borrow.Author.Tests.{eq-eqb, ne-eqb, ltb-true, ltb-false}
-use Rattle.boards.specs.Lists.{anyOf}
+use mathlib.Core.List.{List, [], _∷_, _++_}
+use mathlib.Core.Logic.{_≢_}
+use lib.Dec.{eqb}
+use lib.ListN.{length}
+use borrow.Author.Tests.{eq-eqb, ne-eqb}
 use Rattle.boards.specs.Boards.{has, commit-group}
 use Rattle.boards.specs.Rows.{links-of, emptied, Grouped}
 use Rattle.boards.specs.declared.Closure.{Closure}
-use Rattle.protocol.specs.Image.{Decision, Group, Tentative, Memory, Put, put, raw, base, allowed, total, view, after}
+use Rattle.protocol.specs.Image.{Memory, view, after}
 use Rattle.protocol.specs.Image.{shape-of}
-use Rattle.volatile.specs.Volatile.{engaged, commit-of, acknowledge, opened, start, clear, depends}
+use Rattle.volatile.specs.Volatile.{engaged, commit-of, acknowledge, opened, start, depends}
 use Rattle.protocol.specs.Calls.{Request, Start, Acknowledge, Test, first, test, refusals, entry-tests, start-tests}
 use Rattle.protocol.specs.Calls.{acknowledge-tests}
-use Rattle.protocol.specs.Calls.{record-refused, plan, perform, placing, completing, acknowledging, decides}
+use Rattle.protocol.specs.Calls.{record-refused, plan, perform}
 use Rattle.protocol.specs.declared.Shape.{Shape}
 use Rattle.volatile.specs.declared.Record.{Record}
 use Rattle.volatile.specs.declared.Commit.{Commit}
 use Rattle.protocol.specs.declared.Reply.{Reply}
-use Rattle.boards.proofs.Basics.{decide, false-not, All, none, also, all-append, all-take, take-map}
+use Rattle.boards.proofs.Basics.{false-not}
 use Rattle.protocol.proofs.Refusals.{entry-stops, entry-goes-on}
-use Rattle.protocol.proofs.Bridge.{Valid, decides-raw}
-use Rattle.protocol.proofs.Copies.{length-placing}
-use Rattle.protocol.proofs.Safety.{deciding-stores}
-use Rattle.protocol.proofs.Outcomes.{decisive}
-use Rattle.protocol.proofs.Plans.{given-inside, inside-valid, deciding-valid, inside-indecisive, undecided-before}
-use Rattle.protocol.proofs.Plans.{decided-after}
-use Rattle.layout.proofs.Laws.{bounded}
-use Rattle.store.specs.Budget.{Makes, start as whole}
-use Rattle.store.specs.Runs.{put-stores}
-use Rattle.store.specs.declared.Budget.{Budget}
-use Rattle.store.proofs.Laws.{well-start, makes-refused}
-use Rattle.store.proofs.Areas.{placing-stores}
-use Rattle.store.specs.Puts.{Puts}
-use Rattle.blocks.proofs.Blocks.{context-fits}
-use Rattle.store.proofs.Chains.{then-puts}
-use Rattle.blocks.proofs.Composite.{decides as commits}
-use Rattle.store.specs.Promise.{Performed, reply-of}
+use Rattle.store.specs.Promise.{Performed}
 use Rattle.protocol.specs.Calls.{refusal-of}
-use Rattle.store.proofs.Ends.{made-outcome, left-most, turned, first-held, first-passed}
-use Rattle.commit.specs.Executed.{Executed}
-
--- ---- whether the stores made decide
-
-decides-map : (s : Shape) (ps : List Put) → All (Valid s) ps → anyOf decides (map (raw s) ps) ≡ anyOf decisive ps
-unfolding anyOf decisive
-decides-map s [] none = refl
-decides-map s (p ∷ ps) (also v vs) = rw (decides-raw s p v, decides-map s ps vs)
-
-made-decides : (s : Shape) (k : ℕ) (ps : List Put) → All (Valid s) ps
-    → anyOf decides (take k (map (raw s) ps)) ≡ anyOf decisive (take k ps)
-made-decides s k ps v = ap (anyOf decides) (take-map k (raw s) ps) ∙ decides-map s (take k ps) (all-take k v)
-
--- bytes 10, 11 and 9
-abbrev group-puts : ℕ → List Put
-group-puts g = put Group 0 (g % 256) ∷ put Group 1 (g / 256) ∷ put Decision 0 1 ∷ []
-
--- ---- the context, and then the commit if all have acknowledged
-
--- board i's context stands within the tentative contexts
-pub context-room : (s : Shape) (i : ℕ) → allowed s ≡ true → i < s .boards
-    → (i * s .context + s .context ≤ 1024) × (base s Tentative + i * s .context + s .context ≤ total s)
-    × (total s ≤ 35852)
-unfolding base total
-context-room s i h l =
-    let b = bounded h in
-    let f = context-fits s i l in
-    (omega arith, omega arith, b .most-total)
-
-pub given-puts : {s : Shape} (i : ℕ) (context : List ℕ) {at k : ℕ} {b : Budget} {x y : List ℕ}
-    → at ≡ base s Tentative
-    → Makes (put-stores (at + i * s .context) context) (whole k) x b y
-    → Puts s (placing Tentative (i * s .context) context) (whole k) x b y
-given-puts {s} i context e m =
-    record { makes = rw (placing-stores s Tentative (i * s .context) _ context (ap (λ n. n + i * s .context) e)) m }
-
-module _ {s : Shape} {x : List ℕ} (i : ℕ) (context : List ℕ) {k : ℕ} (board : i < s .boards)
-    (full : length context ≡ s .context)
-    {r : Record} (before : Record) (same : r ≡ acknowledge before i)
-    {g : ℕ} (members : g ≡ commit-of r i .members) {b : Budget} {y : List ℕ}
-    (given : Puts s (placing Tentative (i * s .context) context) (whole k) x b y)
-  where
-    -- some have not: nothing is decided
-    pub awaits : commit-of r i .acknowledged ≢ g
-        → Executed s (acknowledging s (view s x) before i context) k x (reply-of k b false g r) y
-    unfolding acknowledging
-    awaits e =
-        let ps = placing Tentative (i * s .context) context in
-        let inside = given-inside s i context board full in
-        let none = made-decides s k ps (inside-valid inside) ∙ inside-indecisive (all-take k inside) in
-        let both = made-outcome g r [] false (given .makes) (sym none) in
-        rw (← same, ← members, ne-eqb _ _ e, append-nil) (record { reply = both .0; image = both .1 })
-
-    module _ {told : Budget} {z : List ℕ} (announced : Puts s (group-puts g) b y told z) where
-      -- the commit is decided if the third store after the context was made
-      decided : not (told .cut) ≡ anyOf decides (take k (map (raw s) (deciding-stores s (view s x) i g context)))
-      decided =
-          let m = view s x in
-          let ps = placing Tentative (i * s .context) context in
-          let short : told .cut ≡ ltb k (length context + 3) =
-          makes-refused (then-puts ps (group-puts g) given announced .makes)
-          ∙ ap (ltb k)
-          (length-map (ps ++ group-puts g) (raw s) ∙ length-append ps (group-puts g)
-          ∙ ap (λ n. n + 3) (length-placing Tentative (i * s .context) context))
-          in
-          let valid = all-append (inside-valid (given-inside s i context board full)) (deciding-valid s (after ps m) g) in
-          ap not short
-          ∙ ⊎-elim
-          (λ (h : ltb k (length context + 3) ≡ true). ap not h ∙ sym (undecided-before s m i g context k (ltb-true _ _ h)))
-          (λ (h : ltb k (length context + 3) ≡ false). ap not h ∙ sym (decided-after s m i g context k (ltb-false _ _ h)))
-          (decide (ltb k (length context + 3)))
-          ∙ sym (made-decides s k (deciding-stores s m i g context) valid)
-
-      -- all have: the commit is decided and completed
-      pub commits-all : {left : Budget} {w : List ℕ} {next : Record} → length x ≡ total s
-          → commit-of r i .acknowledged ≡ g → next ≡ clear r g
-          → Puts s (completing s (view s z) g) told z left w
-          → Executed s (acknowledging s (view s x) before i context) k x (reply-of k left (not (told .cut)) g next) w
-      unfolding acknowledging
-      commits-all {next = next} long e f completed =
-          let ps = placing Tentative (i * s .context) context in
-          let valid = inside-valid (given-inside s i context board full) in
-          let all = commits long (well-start k) ps g valid given announced completed in
-          let both = made-outcome g next [] (not (told .cut)) (all .makes) decided in
-          rw (← same, ← members, eq-eqb _ _ e, ← f) (record { reply = both .0; image = both .1 })
-
--- what is left at the end is no more than there was
-pub left-all : {s : Shape} {ps qs rs : List Put} {k : ℕ} {b b′ b″ : Budget} {x y z w : List ℕ}
-    → Puts s ps (whole k) x b y → Puts s qs b y b′ z → Puts s rs b′ z b″ w → b″ .left ≤ k
-left-all p q t = left-most (then-puts _ _ p (then-puts _ _ q t) .makes)
+use Rattle.store.proofs.Ends.{turned, first-held, first-passed}
+use Rattle.decision.specs.Executed.{Executed}
 
 -- ---- how the two calls end
 

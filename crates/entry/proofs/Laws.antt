@@ -1,16 +1,14 @@
--- The first tests of a call, what a call that passed them knows, and the range of an access as the code tests it.
-use Prim.Native.Nat.{ℕ, zero, suc, _+_, _-_, _*_, _/_, _≤_, _<_}
-use mathlib.Core.Path.{_≡_, refl, sym, _∙_, ap, subst}
-use mathlib.Core.Bool.{Bool, true, false, _||_, not, cond}
+-- The first tests of a call, and what a call that passed them knows.
+use Prim.Native.Nat.{ℕ, _+_, _-_, _≤_, _<_}
+use mathlib.Core.Path.{_≡_, refl, sym, _∙_, ap}
+use mathlib.Core.Bool.{true, false}
 use mathlib.Core.List.{List, _++_}
-use mathlib.Core.Logic.{⊎-elim, _≢_}
-use lib.Dec.{eqb, ltb, leb}
-use lib.ListN.{length, getD}
+use lib.ListN.{length}
 use native.Mathlib.Omega.{arith}
-use borrow.Author.Tests.{eq-eqb, ne-eqb, lt-ltb, le-ltb, le-leb, lt-leb}
-use Rattle.protocol.specs.Image.{cells, allowed, total, in-order, shape-of, byte}
+use borrow.Author.Tests.{le-leb, lt-leb}
+use Rattle.protocol.specs.Image.{allowed, total, in-order, shape-of, byte}
 use Rattle.volatile.specs.Volatile.{bad-record}
-use Rattle.protocol.specs.Calls.{Test, first, entry-tests, bad-range}
+use Rattle.protocol.specs.Calls.{Test, first, entry-tests}
 use Rattle.protocol.specs.declared.Shape.{Shape}
 use Rattle.volatile.specs.declared.Record.{Record}
 use Rattle.protocol.proofs.Refusals.{entered, entry-goes-on}
@@ -58,23 +56,3 @@ pub own-tests : (image : List ℕ) (r : Record) (i : ℕ) (tests : Shape → Lis
     → k ≡ first (entry-tests image r i ++ tests (shape-of image))
 own-tests image r i tests passed same e =
     e ∙ ap (λ t. first (tests t)) same ∙ sym (entry-goes-on image r i (tests (shape-of image)) (sym passed))
-
--- ---- the range
-
-module _ (s : Shape) (a n : ℕ) where
-  pub range-none : n ≡ 0 → true ≡ bad-range s a n
-  unfolding bad-range
-  range-none e = rw (eq-eqb n 0 e)
-
-  pub range-long : (n ≡ 0 → ⊥) → s .size < n → true ≡ bad-range s a n
-  unfolding bad-range
-  range-long z l = rw (ne-eqb n 0 z, lt-ltb (s .size) n l)
-
-  pub range-past : (n ≡ 0 → ⊥) → n ≤ s .size → cells s < a + n → true ≡ bad-range s a n
-  unfolding bad-range
-  range-past z l p = rw (ne-eqb n 0 z, le-ltb (s .size) n l, lt-ltb (cells s) (a + n) p)
-
-  pub range-block : (n ≡ 0 → ⊥) → n ≤ s .size → a + n ≤ cells s
-      → not (eqb (a / s .size) ((a + n - 1) / s .size)) ≡ bad-range s a n
-  unfolding bad-range
-  range-block z l p = rw (ne-eqb n 0 z, le-ltb (s .size) n l, le-ltb (cells s) (a + n) p)

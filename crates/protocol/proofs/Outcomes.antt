@@ -29,7 +29,7 @@ use Rattle.protocol.proofs.Bridge.{Sound, Valid, view-made-fun, made-so
 unfoldable pub decisive : Put → Bool
 decisive p = eqb (rank (p .area)) 1 && eqb (p .value) 1
 
-decides-map : (s : Shape) (ps : List Put) → All (Valid s) ps → anyOf decides (map (raw s) ps) ≡ anyOf decisive ps
+pub decides-map : (s : Shape) (ps : List Put) → All (Valid s) ps → anyOf decides (map (raw s) ps) ≡ anyOf decisive ps
 unfolding anyOf decisive
 decides-map s [] none = refl
 decides-map s (p ∷ ps) (also v vs) = rw (decides-raw s p v, decides-map s ps vs)

@@ -1,29 +1,29 @@
 -- The plans of calls that are not refused: their puts stand in their areas, and which of them decides.
 use Prim.Native.Nat.{ℕ, suc, _+_, _-_, _*_, _/_, _%_, _≤_, _<_}
 use native.Mathlib.Nat.{mul-le-mul-right, suc-mul}
-use mathlib.Core.Path.{_≡_, refl, sym, _∙_, ap, subst}
+use mathlib.Core.Path.{_≡_, refl, sym, _∙_, ap}
 use mathlib.Core.Bool.{Bool, true, false, _||_, not}
-use mathlib.Core.List.{List, [], _∷_, _++_, append-nil}
+use mathlib.Core.List.{List, [], _∷_, _++_, map, append-nil}
 use mathlib.Core.Logic.{⊎-elim, _≢_}
-use lib.Dec.{eqb, ltb, leb}
+use lib.Dec.{eqb, ltb}
 use lib.ListN.{length, take}
 use native.Mathlib.Omega.{arith}
-use borrow.Author.Tests.{eqb-false, ne-eqb, ltb-false, leb-false}
+use borrow.Author.Tests.{eqb-false, ne-eqb, ltb-false}
 use Rattle.boards.specs.Lists.{anyOf}
 use Rattle.boards.specs.Boards.{tagged-in, tagged}
 use Rattle.protocol.specs.Image.{Decision, Group, Tags, Current, Recovery, Tentative, Memory, Put, put, rank}
-use Rattle.protocol.specs.Image.{size, after, cells}
+use Rattle.protocol.specs.Image.{size, after, cells, raw}
 use Rattle.protocol.specs.Accesses.{touched}
 use Rattle.protocol.specs.Calls.{bad-range, stored-group, placing, tagging, completing, deciding, completed-first}
-use Rattle.protocol.specs.Calls.{recovering}
+use Rattle.protocol.specs.Calls.{recovering, decides}
 use Rattle.protocol.specs.declared.Shape.{Shape}
 use Rattle.boards.proofs.Basics.{or-false, All, none, also, all-append, all-cond, all-map, anyOf-false, or-right}
-use Rattle.boards.proofs.Basics.{all-take, take-append}
+use Rattle.boards.proofs.Basics.{all-take, take-append, take-map}
 use Rattle.protocol.proofs.Bridge.{Valid}
 use Rattle.protocol.proofs.Copies.{Inside, placing-inside, blocks-inside, contexts-inside, current, recovery}
 use Rattle.protocol.proofs.Safety.{block-below, announced, announced-length, announced-areas, stores-parts}
 use Rattle.protocol.proofs.Safety.{deciding-stores, decision}
-use Rattle.protocol.proofs.Outcomes.{decisive}
+use Rattle.protocol.proofs.Outcomes.{decisive, decides-map}
 
 -- ---- accesses
 
@@ -132,6 +132,16 @@ indecisive = anyOf-false decisive (λ p h. rw (ne-eqb (rank (p .area)) 1 h))
 
 pub inside-indecisive : {s : Shape} {ps : List Put} → All (Inside s) ps → anyOf decisive ps ≡ false
 inside-indecisive h = indecisive (all-map (λ p i. omega arith) h)
+
+-- whether the stores that were made decide
+pub made-decides : (s : Shape) (k : ℕ) (ps : List Put) → All (Valid s) ps
+    → anyOf decides (take k (map (raw s) ps)) ≡ anyOf decisive (take k ps)
+made-decides s k ps v = ap (anyOf decides) (take-map k (raw s) ps) ∙ decides-map s (take k ps) (all-take k v)
+
+-- stores past the header's areas do not
+pub inside-quiet : (s : Shape) (k : ℕ) {ps : List Put} → All (Inside s) ps
+    → false ≡ anyOf decides (take k (map (raw s) ps))
+inside-quiet s k {ps} h = sym (made-decides s k ps (inside-valid h) ∙ inside-indecisive (all-take k h))
 
 module _ (s : Shape) (m : Memory) (i g : ℕ) (bytes : List ℕ) where
   announced-indecisive : (k : ℕ) → anyOf decisive (take k (announced s m i g bytes)) ≡ false

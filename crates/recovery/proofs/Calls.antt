@@ -1,24 +1,19 @@
--- The two calls: refused, or done as their plans say.
-use Prim.Native.Nat.{ℕ, zero, suc, _+_, _*_, _≤_, _<_}
-use mathlib.Core.Path.{_≡_, refl, sym, _∙_, ap, subst}
-use mathlib.Core.Bool.{Bool, true, false, not, _&&_, _||_, cond}
-use mathlib.Core.List.{List, [], _∷_}
+-- Power-up: refused, or done as its plan says.
+use Prim.Native.Nat.{ℕ, _+_, _*_}
+use mathlib.Core.Path.{_≡_, sym}
+use mathlib.Core.Bool.{true, false}
+use mathlib.Core.List.{List}
 use mathlib.Core.Logic.{_≢_}
-use lib.Dec.{eqb}
-use lib.ListN.{length, getD}
-use native.Mathlib.Omega.{arith}
-use borrow.Author.Tests.{eq-eqb, ne-eqb}
-use Rattle.boards.specs.Boards.{fault-group}
-use Rattle.protocol.specs.Image.{Decision, Recovery, Current, in-order, shape-of, view}
-use Rattle.volatile.specs.Volatile.{depends, clear, fresh, off}
+use lib.ListN.{getD}
+use borrow.Author.Tests.{ne-eqb}
+use Rattle.protocol.specs.Image.{in-order, shape-of, view}
+use Rattle.volatile.specs.Volatile.{fresh, off}
 use Rattle.boards.specs.Boards.{beyond}
-use Rattle.protocol.specs.Calls.{Request, Fault, Power-up, first, refusals, entry-tests, power-tests, bad-tags}
+use Rattle.protocol.specs.Calls.{Power-up, first, refusals, power-tests, bad-tags}
 use Rattle.protocol.specs.Calls.{bad-decision}
-use Rattle.protocol.specs.Calls.{stored-group, blocks-copied, recovering, plan, record-refused}
-use Rattle.boards.specs.Boards.{tagged-in}
+use Rattle.protocol.specs.Calls.{recovering, plan, record-refused}
 use Rattle.protocol.specs.declared.Shape.{Shape}
 use Rattle.volatile.specs.declared.Record.{Record}
-use Rattle.protocol.specs.declared.Reply.{Reply}
 use Rattle.protocol.proofs.Refusals.{Power-passed, power-passed}
 use Rattle.store.specs.Budget.{start}
 use Rattle.store.specs.declared.Budget.{Budget}
@@ -27,33 +22,7 @@ use Rattle.store.specs.Promise.{Performed, reply-of}
 use Rattle.protocol.specs.Calls.{refusal-of}
 use Rattle.store.proofs.Ends.{ended, turned}
 use Rattle.recovery.proofs.Laws.{decision-read, group-read}
-use Rattle.recovery.proofs.Quiet.{quiet, rollback-quiet, recovering-quiet}
-
--- an answer that equals one that was promised
-pub answers : {request : Request} {k : ℕ} {before after : List ℕ} {state : Record} {r promised : Reply} → r ≡ promised
-    → Performed request k before state promised after → Performed request k before state r after
-answers {request} {k} {before} {after} {state} e p = subst (λ a. Performed request k before state a after) (sym e) p
-
--- ---- a fault
-
-module _ (image : List ℕ) (state : Record) (board k : ℕ) where
-  pub fault-refused : {n : ℕ} → n ≡ first (entry-tests image state board) → n ≢ 0
-      → Performed (Fault board) k image state (refusal-of n state) image
-  unfolding refusals record-refused
-  fault-refused e h = turned image state (Fault board) (sym e) h refl
-
-  pub fault-done : {s : Shape} {after : List ℕ} {r : Budget} (g : ℕ) {next : Record} → s ≡ shape-of image
-      → 0 ≡ first (entry-tests image state board) → g ≡ fault-group (depends state) board → next ≡ clear state g
-      → Puts s (blocks-copied s (view s image) Recovery Current (tagged-in g)) (start k) image r after
-      → Performed (Fault board) k image state (reply-of k r false g next) after
-  unfolding refusals plan
-  fault-done {s} {after} {r} g e n f h p =
-      let group = fault-group (depends state) board in
-      let puts = subst (λ x. Puts s (blocks-copied s (view s image) Recovery Current (tagged-in x)) (start k) image r after) f (p) in
-      rw (h, f)
-      (ended state (Fault board) (sym e) (sym n) (puts .makes) false (quiet k (rollback-quiet s (view s image) group)))
-
--- ---- a power-up
+use Rattle.recovery.proofs.Quiet.{quiet, recovering-quiet}
 
 abbrev pub power-number : List ℕ → ℕ
 power-number image = first (power-tests image (shape-of image) (view (shape-of image) image))

@@ -1,8 +1,8 @@
 -- Power-up by its parts: its tests in order, its completion, and a rollback of all tagged blocks.
 use Prim.Native.Nat.{ℕ, zero, suc, _+_, _*_, _≤_, _<_}
-use mathlib.Core.Path.{_≡_, refl, sym, _∙_, ap, subst}
-use mathlib.Core.Bool.{Bool, true, false, not, cond}
-use mathlib.Core.List.{List, [], _∷_, _++_, map}
+use mathlib.Core.Path.{_≡_, refl, sym, _∙_, ap}
+use mathlib.Core.Bool.{Bool, true, false}
+use mathlib.Core.List.{List, map}
 use mathlib.Core.Logic.{⊎-elim}
 use lib.Dec.{eqb, ltb}
 use lib.ListN.{length, getD}
@@ -11,16 +11,16 @@ use native.Mathlib.Numerals.{add-one}
 use borrow.Author.Tests.{ltb-false, ne-eqb, lt-ltb, le-ltb}
 use Rattle.boards.specs.Lists.{for, any, every}
 use Rattle.boards.specs.Boards.{has}
-use Rattle.protocol.specs.Image.{Area, Decision, Group, Tags, Current, Recovery, Memory, Put, raw, base, size, view}
-use Rattle.protocol.specs.Image.{after, total, allowed}
+use Rattle.protocol.specs.Image.{Decision, Tags, Current, Recovery, Memory, raw, base, size, view}
+use Rattle.protocol.specs.Image.{after, total}
 use Rattle.protocol.specs.Calls.{stored-group, bad-tags, block-copied, blocks-copied, completing, completed-first}
 use Rattle.protocol.specs.Calls.{recovering}
 use Rattle.boards.specs.Boards.{tagged, tagged-in}
 use Rattle.protocol.specs.declared.Shape.{Shape}
 use Rattle.boards.proofs.Basics.{decide, any-none, some-any, false-or, every-at}
-use Rattle.protocol.proofs.Bridge.{view-at, view-made-fun}
+use Rattle.protocol.proofs.Bridge.{view-made-fun}
 use Rattle.protocol.proofs.Safety.{completed}
-use Rattle.store.specs.Budget.{Makes, WellBudget}
+use Rattle.store.specs.Budget.{WellBudget}
 use Rattle.store.specs.declared.Budget.{Budget}
 use Rattle.store.proofs.Laws.{makes-instead, makes-all, makes-well, makes-none}
 use Rattle.store.specs.Puts.{Puts}

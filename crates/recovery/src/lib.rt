@@ -1,9 +1,7 @@
-// The calls that roll back: a board's fault, and power-up, which first completes a decided commit.
+// Power-up: a decided commit is completed, then every block still tagged is rolled back.
 use blocks::complete;
 use blocks::copy_blocks;
 use boards::sets::beyond;
-use entry::entry_refusal;
-use groups::fault_closure;
 use layout::in_order;
 use layout::shape_of;
 use protocol::Reply;
@@ -14,10 +12,10 @@ use store::answers::refusal;
 use volatile::Record;
 ghost use mathlib.Core.Path.{_≡_};
 ghost use mathlib.Core.Bool.{true};
-ghost use Prim.Native.Nat.{ℕ, _+_, _*_, _≤_};
+ghost use Prim.Native.Nat.{_+_, _*_, _≤_};
 ghost use lib.ListN.{length, getD};
 ghost use Rattle.protocol.specs.Image.{allowed, total, view, shape-of};
-ghost use Rattle.protocol.specs.Calls.{Fault, Power-up, first, power-tests, bad-tags, bad-decision, completed-first};
+ghost use Rattle.protocol.specs.Calls.{Power-up, first, power-tests, bad-tags, bad-decision, completed-first};
 ghost use Rattle.volatile.specs.declared.Record.{Record as State};
 ghost use Rattle.store.specs.Budget.{WellBudget};
 ghost use Rattle.store.specs.Puts.{Puts};
@@ -109,25 +107,4 @@ pub fn power_up(image: &mut [u8], k: usize) -> Reply
     let done = copy_blocks(image, s, 65535, false, first);
     let next = Record::fresh();
     finish(k, done, false, 0, next)
-}
-
-// A fault of a board rolls back all who depend on it.
-pub fn fault(image: &mut [u8], state: Record, board: usize, k: usize) -> Reply
-    ensures { λ r. ⌜ Performed (Fault board) k (now (image .entry)) state r (now (image .exit)) ⌝ }
-{
-    let n = entry_refusal(image, state, board);
-    if n != 0 {
-        return refusal(n, state);
-    }
-    let s = shape_of(image);
-    let rows = state.rows;
-    let group = fault_closure(rows, board as u8);
-    let g = group.members;
-    let whole = Budget {
-        left: k,
-        cut: false,
-    };
-    let left = copy_blocks(image, s, g, false, whole);
-    let next = state.clear(group);
-    finish(k, left, false, g, next)
 }

@@ -1,11 +1,10 @@
 -- How a call ends: from the stores made under its budget to the outcome of the definitions, and refusals in their order.
-use Prim.Native.Nat.{ℕ, zero, suc, _+_, _-_, _≤_, _<_}
-use mathlib.Core.Path.{_≡_, refl, sym, _∙_, ap, subst}
-use mathlib.Core.Bool.{Bool, true, false, cond}
-use mathlib.Core.List.{List, [], _∷_, _++_, map}
+use Prim.Native.Nat.{ℕ, _-_, _≤_}
+use mathlib.Core.Path.{_≡_, refl, sym, subst}
+use mathlib.Core.Bool.{Bool, true, false}
+use mathlib.Core.List.{List, _∷_, map}
 use mathlib.Core.Logic.{_≢_}
-use lib.Dec.{eqb}
-use lib.ListN.{length, take}
+use lib.ListN.{take}
 use native.Mathlib.Omega.{arith}
 use borrow.Author.Tests.{ne-eqb}
 use Rattle.boards.specs.Lists.{anyOf}
@@ -81,3 +80,8 @@ first-held n ts e = rw e
 pub first-passed : {b : Bool} (n : ℕ) (ts : List Test) → b ≡ false → first (test b n ∷ ts) ≡ first ts
 unfolding first
 first-passed n ts e = rw e
+
+-- an answer that equals one that was promised
+pub answers : {request : Request} {k : ℕ} {before after : List ℕ} {state : Record} {r promised : Reply} → r ≡ promised
+    → Performed request k before state promised after → Performed request k before state r after
+answers {request} {k} {before} {after} {state} e p = subst (λ a. Performed request k before state a after) (sym e) p

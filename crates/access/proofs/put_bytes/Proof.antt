@@ -3,7 +3,6 @@ use Prim.Native.Nat.{ℕ, _+_}
 use mathlib.Core.Path.{ap}
 use borrow.Author.Needs.{needs}
 use native.Mathlib.Omega.{arith}
-use denote.Ref.{now}
 use Rattle.protocol.specs.Image.{total, base}
 use Rattle.layout.proofs.Laws.{bounded}
 use Rattle.access.proofs.Written.{tag-then}

@@ -3,7 +3,7 @@ use mathlib.Core.Path.{refl}
 use native.Mathlib.Omega.{arith}
 use Rattle.protocol.specs.Image.{total}
 use Rattle.layout.proofs.Laws.{bounded}
-use Rattle.access.proofs.Tests.{block-of}
+use Rattle.admission.proofs.Tests.{block-of}
 use Rattle.access.proofs.Written.{tag-kept, tag-put}
 use Rattle.access.proofs.put_tag.Statement.{statement}
 use Rattle.access.proofs.put_tag.Tie as tie

@@ -5,7 +5,7 @@ use native.Mathlib.Omega.{arith}
 use denote.Ref.{now}
 use lib.ListN.{length}
 use Rattle.protocol.specs.Image.{total, base}
-use Rattle.access.proofs.Tests.{Admitted, read-admitted}
+use Rattle.admission.proofs.Tests.{Admitted, read-admitted}
 use Rattle.access.proofs.Answers.{read-refused, read-done}
 use Rattle.access.proofs.read.Statement.{statement}
 use Rattle.access.proofs.read.Tie as tie

@@ -4,7 +4,7 @@ use native.Mathlib.Omega.{arith}
 use denote.Ref.{now}
 use lib.ListN.{length}
 use Rattle.store.proofs.Ends.{left-most}
-use Rattle.access.proofs.Tests.{Admitted, write-admitted}
+use Rattle.admission.proofs.Tests.{Admitted, write-admitted}
 use Rattle.access.proofs.Answers.{write-refused, write-done}
 use Rattle.access.proofs.write.Statement.{statement}
 use Rattle.access.proofs.write.Tie as tie

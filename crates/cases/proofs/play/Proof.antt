@@ -1,4 +1,4 @@
--- `play` stays within its slices and ends.
+-- `play` keeps the length of the area and ends: each line is past the one before.
 use native.Mathlib.Omega.{arith}
 use borrow.Author.Needs.{needs}
 use Prim.Native.Nat.{_-_}
@@ -8,21 +8,19 @@ use Rattle.cases.proofs.play.Statement.{statement}
 use Rattle.cases.proofs.play.Tie as tie
 
 abbrev Inv-loop : tie.InvT-loop
-Inv-loop text image₀ before₀ other₀ spare₀ source bench₀ at₀ image before other spare bench at =
-    (length image ≡ length image₀) × (length before ≡ length before₀)
-    × (length other ≡ length other₀) × (length spare ≡ length spare₀)
+Inv-loop text area₀ bench₀ at₀ area bench at = length area ≡ length area₀
 
 abbrev μ-loop : tie.MeasureT-loop
-μ-loop text image₀ before₀ other₀ spare₀ source bench₀ at₀ image before other spare bench at = length text - at
+μ-loop text area₀ bench₀ at₀ area bench at = length text - at
 
-new-requires : tie.Need-new-requires Inv-loop μ-loop
-new-requires c κs = tt
+off-requires : tie.Need-off-requires Inv-loop μ-loop
+off-requires c κs = tt
 
 loop-holds : tie.Need-loop-holds Inv-loop μ-loop
 loop-holds c = omega arith
 
 line-end-requires : tie.Need-line-end-requires Inv-loop μ-loop
-line-end-requires c κs = search needs
+line-end-requires c κs = omega arith
 
 sub-play-line : tie.Need-sub-play-line Inv-loop μ-loop
 sub-play-line c = omega arith
@@ -34,31 +32,22 @@ part-play-line-end : tie.Need-part-play-line-end Inv-loop μ-loop
 part-play-line-end c = omega arith
 
 play-line-requires : tie.Need-play-line-requires Inv-loop μ-loop
-play-line-requires c κs = tt
+play-line-requires c κs = omega arith
 
 after-requires : tie.Need-after-requires Inv-loop μ-loop
-after-requires c κs = search needs
+after-requires c κs = omega arith
 
 loop-less : tie.Need-loop-less Inv-loop μ-loop
 loop-less c = omega arith
 
 loop-again : tie.Need-loop-again Inv-loop μ-loop
-loop-again c = omega arith
+loop-again c = search needs
 
 same-length : tie.Need-same-length Inv-loop μ-loop
 same-length c = search needs
 
-same-length-2 : tie.Need-same-length-2 Inv-loop μ-loop
-same-length-2 c = search needs
-
-same-length-3 : tie.Need-same-length-3 Inv-loop μ-loop
-same-length-3 c = search needs
-
-same-length-4 : tie.Need-same-length-4 Inv-loop μ-loop
-same-length-4 c = search needs
-
 returns : tie.Need-returns Inv-loop μ-loop
-returns c = omega arith
+returns c = tt
 
 pub play-spec : {M : Type 1} → statement M
 play-spec =
@@ -66,7 +55,7 @@ play-spec =
     (tie.spec
     Inv-loop
     μ-loop
-    new-requires
+    off-requires
     loop-holds
     line-end-requires
     sub-play-line
@@ -77,7 +66,4 @@ play-spec =
     loop-less
     loop-again
     same-length
-    same-length-2
-    same-length-3
-    same-length-4
     returns)

@@ -1,6 +1,5 @@
 -- `start` meets its contract: its tests in their order, and then the acknowledgement of its own opened commit.
 use mathlib.Core.Path.{refl, sym, _∙_}
-use borrow.Author.Needs.{needs}
 use native.Mathlib.Omega.{arith}
 use denote.Ref.{now}
 use Rattle.protocol.specs.Calls.{Start, record-refused, plan}

@@ -1,6 +1,5 @@
 -- `bad_decision` meets its contract: byte 9, then the group that bytes 10 and 11 name.
-use Prim.Native.Nat.{_≤_}
-use mathlib.Core.Path.{sym, _∙_}
+use mathlib.Core.Path.{_∙_}
 use native.Mathlib.Omega.{arith}
 use denote.Ref.{now}
 use Rattle.protocol.specs.Image.{total}

@@ -1,5 +1,5 @@
 -- `power_refusal` meets its contract: the three tests in their order.
-use mathlib.Core.Path.{sym, _∙_, ap}
+use mathlib.Core.Path.{sym, _∙_}
 use native.Mathlib.Omega.{arith}
 use denote.Ref.{now}
 use Rattle.boards.proofs.Basics.{not-true, not-false}

@@ -1,17 +1,17 @@
 -- `power_up` meets its contract: refused; or a decided commit completed, and the blocks still tagged restored.
-use mathlib.Core.Path.{_≡_, refl, sym, _∙_, ap}
+use mathlib.Core.Path.{refl, sym, _∙_, ap}
 use native.Mathlib.Omega.{arith}
 use denote.Ref.{now}
 use borrow.Author.Needs.{needs}
 use Rattle.protocol.specs.Image.{view}
 use Rattle.protocol.specs.Calls.{bad-tags}
 use Rattle.store.proofs.Laws.{well-start, makes-then}
-use Rattle.layout.proofs.Laws.{Geometry, geometry, geometry-of}
-use Rattle.store.proofs.Ends.{left-most}
+use Rattle.layout.proofs.Laws.{geometry, geometry-of}
+use Rattle.store.proofs.Ends.{left-most, answers}
 use Rattle.blocks.specs.Banks.{bank}
 use Rattle.store.proofs.Chains.{puts-length, puts-well}
 use Rattle.recovery.proofs.Laws.{powered}
-use Rattle.recovery.proofs.Calls.{answers, power-known, power-refused, power-done}
+use Rattle.recovery.proofs.Calls.{power-known, power-refused, power-done}
 use Rattle.recovery.proofs.power_up.Statement.{statement}
 use Rattle.recovery.proofs.power_up.Tie as tie
 

@@ -1,4 +1,4 @@
--- `cuts::cut_on` stays within its slices and ends.
+-- `cuts::cut_on` keeps the length of the area and ends.
 use native.Mathlib.Omega.{arith}
 use borrow.Author.Needs.{needs}
 use Prim.Native.Nat.{_-_}
@@ -8,26 +8,22 @@ use Rattle.cases.proofs.cuts.cut_on.Statement.{statement}
 use Rattle.cases.proofs.cuts.cut_on.Tie as tie
 
 abbrev Inv-loop : tie.InvT-loop
-Inv-loop image₀ before after cut₀ state r source k₀ image cut k =
-    (length image ≡ length image₀) × (length cut ≡ length cut₀)
+Inv-loop area₀ n state r k₀ area k = length area ≡ length area₀
 
 abbrev μ-loop : tie.MeasureT-loop
-μ-loop image₀ before after cut₀ state r source k₀ image cut k = 1000 - k
+μ-loop area₀ n state r k₀ area k = 1000 - k
 
 loop-holds : tie.Need-loop-holds Inv-loop μ-loop
 loop-holds c = omega arith
 
 one-cut-requires : tie.Need-one-cut-requires Inv-loop μ-loop
-one-cut-requires c κs = tt
+one-cut-requires c κs = omega arith
 
 same-length : tie.Need-same-length Inv-loop μ-loop
 same-length c = search needs
 
-same-length-2 : tie.Need-same-length-2 Inv-loop μ-loop
-same-length-2 c = search needs
-
 returns : tie.Need-returns Inv-loop μ-loop
-returns c = omega arith
+returns c = tt
 
 add-k : tie.Need-add-k Inv-loop μ-loop
 add-k c = omega arith
@@ -36,16 +32,13 @@ loop-less : tie.Need-loop-less Inv-loop μ-loop
 loop-less c = omega arith
 
 loop-again : tie.Need-loop-again Inv-loop μ-loop
-loop-again c = omega arith
+loop-again c = search needs
 
-same-length-3 : tie.Need-same-length-3 Inv-loop μ-loop
-same-length-3 c = search needs
-
-same-length-4 : tie.Need-same-length-4 Inv-loop μ-loop
-same-length-4 c = search needs
+same-length-2 : tie.Need-same-length-2 Inv-loop μ-loop
+same-length-2 c = search needs
 
 returns-2 : tie.Need-returns-2 Inv-loop μ-loop
-returns-2 c = omega arith
+returns-2 c = tt
 
 pub cut-on-spec : {M : Type 1} → statement M
 cut-on-spec =
@@ -56,11 +49,9 @@ cut-on-spec =
     loop-holds
     one-cut-requires
     same-length
-    same-length-2
     returns
     add-k
     loop-less
     loop-again
-    same-length-3
-    same-length-4
+    same-length-2
     returns-2)

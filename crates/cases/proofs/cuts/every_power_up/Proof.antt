@@ -1,4 +1,4 @@
--- `cuts::every_power_up` stays within its slices and ends.
+-- `cuts::every_power_up` keeps the length of the area and ends.
 use native.Mathlib.Omega.{arith}
 use borrow.Author.Needs.{needs}
 use Prim.Native.Nat.{_-_}
@@ -8,28 +8,43 @@ use Rattle.cases.proofs.cuts.every_power_up.Statement.{statement}
 use Rattle.cases.proofs.cuts.every_power_up.Tie as tie
 
 abbrev Inv-loop : tie.InvT-loop
-Inv-loop image₀ cut before after t₀ k₀ image t k = length image ≡ length image₀
+Inv-loop area₀ n t₀ k₀ area t k = length area ≡ length area₀
 
 abbrev μ-loop : tie.MeasureT-loop
-μ-loop image₀ cut before after t₀ k₀ image t k = 1000 - k
+μ-loop area₀ n t₀ k₀ area t k = 1000 - k
 
 loop-holds : tie.Need-loop-holds Inv-loop μ-loop
 loop-holds c = omega arith
 
 copy-requires : tie.Need-copy-requires Inv-loop μ-loop
-copy-requires c κs = tt
+copy-requires c κs = omega arith
+
+sub-power-up-twice : tie.Need-sub-power-up-twice Inv-loop μ-loop
+sub-power-up-twice c = omega arith
+
+part-power-up-twice-start : tie.Need-part-power-up-twice-start Inv-loop μ-loop
+part-power-up-twice-start c = omega arith
+
+part-power-up-twice-end : tie.Need-part-power-up-twice-end Inv-loop μ-loop
+part-power-up-twice-end c = omega arith
 
 power-up-twice-requires : tie.Need-power-up-twice-requires Inv-loop μ-loop
 power-up-twice-requires c κs = tt
 
-counted-in-requires : tie.Need-counted-in-requires Inv-loop μ-loop
-counted-in-requires c κs = tt
+recovered-requires : tie.Need-recovered-requires Inv-loop μ-loop
+recovered-requires c κs = omega arith
+
+recovered-requires-2 : tie.Need-recovered-requires-2 Inv-loop μ-loop
+recovered-requires-2 c κs = omega arith
+
+counted-requires : tie.Need-counted-requires Inv-loop μ-loop
+counted-requires c κs = tt
 
 same-length : tie.Need-same-length Inv-loop μ-loop
 same-length c = search needs
 
 returns : tie.Need-returns Inv-loop μ-loop
-returns c = omega arith
+returns c = tt
 
 add-k : tie.Need-add-k Inv-loop μ-loop
 add-k c = omega arith
@@ -38,13 +53,13 @@ loop-less : tie.Need-loop-less Inv-loop μ-loop
 loop-less c = omega arith
 
 loop-again : tie.Need-loop-again Inv-loop μ-loop
-loop-again c = omega arith
+loop-again c = search needs
 
 same-length-2 : tie.Need-same-length-2 Inv-loop μ-loop
 same-length-2 c = search needs
 
 returns-2 : tie.Need-returns-2 Inv-loop μ-loop
-returns-2 c = omega arith
+returns-2 c = tt
 
 pub every-power-up-spec : {M : Type 1} → statement M
 every-power-up-spec =
@@ -54,8 +69,13 @@ every-power-up-spec =
     μ-loop
     loop-holds
     copy-requires
+    sub-power-up-twice
+    part-power-up-twice-start
+    part-power-up-twice-end
     power-up-twice-requires
-    counted-in-requires
+    recovered-requires
+    recovered-requires-2
+    counted-requires
     same-length
     returns
     add-k

@@ -1,0 +1,44 @@
+-- An access that is not refused 2 touches one block: its tags, its links, its tests.
+use Prim.Native.Nat.{ℕ, _+_, _-_, _/_}
+use mathlib.Core.Path.{_≡_, refl, ap}
+use mathlib.Core.Bool.{Bool, true, false, _||_}
+use mathlib.Core.List.{[], _∷_, map}
+use lib.Dec.{eqb, ltb}
+use Rattle.boards.specs.Lists.{anyOf}
+use Rattle.protocol.specs.Image.{Tags, Memory, cells}
+use Rattle.volatile.specs.Volatile.{depend}
+use Rattle.protocol.specs.Accesses.{touched, Binding, bind-tag, bind-blocks}
+use Rattle.protocol.specs.Calls.{tags-of, bad-range}
+use Rattle.protocol.specs.declared.Shape.{Shape}
+use Rattle.volatile.specs.declared.Record.{Record}
+use Rattle.boards.proofs.Basics.{or-false, not-false}
+
+one-block : (s : Shape) (a n : ℕ) → bad-range s a n ≡ false → eqb (a / s .size) ((a + n - 1) / s .size) ≡ true
+unfolding bad-range
+one-block s a n e =
+    let one = or-false (eqb n 0) _ e in
+    let two = or-false (ltb (s .size) n) _ (one .1) in
+    let three = or-false (ltb (cells s) (a + n)) _ (two .1) in
+    not-false _ (three .1)
+
+pub touched-one : (s : Shape) (a n : ℕ) → bad-range s a n ≡ false → touched s a n ≡ a / s .size ∷ []
+unfolding touched
+touched-one s a n e = rw (one-block s a n e)
+
+module _ (s : Shape) (m : Memory) (a n : ℕ) (ok : bad-range s a n ≡ false) where
+  pub tags-one : tags-of s m a n ≡ m Tags (a / s .size) ∷ []
+  tags-one = ap (map (m Tags)) (touched-one s a n ok)
+
+  pub any-one : (t : ℕ → Bool) → anyOf t (tags-of s m a n) ≡ t (m Tags (a / s .size))
+  unfolding anyOf
+  any-one t = rw tags-one (or-none (t (m Tags (a / s .size))))
+    where
+      or-none : (b : Bool) → b || false ≡ b
+      or-none true = refl
+      or-none false = refl
+
+  pub bind-one : (how : ℕ → Binding) (r : Record) (i : ℕ)
+      → bind-blocks depend how (m Tags) r i (touched s a n) ≡ bind-tag depend (how (a / s .size)) r i
+      (m Tags (a / s .size))
+  unfolding bind-blocks
+  bind-one how r i = rw (touched-one s a n ok)
