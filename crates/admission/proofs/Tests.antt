@@ -16,11 +16,10 @@ use Rattle.protocol.specs.Calls.{Request, Read, Write, test, first, refusals, r
 use Rattle.protocol.specs.Calls.{entry-tests, read-tests, write-tests}
 use Rattle.protocol.specs.declared.Shape.{Shape}
 use Rattle.volatile.specs.declared.Record.{Record}
-use Rattle.protocol.proofs.Refusals.{Entered, entered, read-passed, write-passed, entry-first}
+use Rattle.protocol.proofs.Refusals.{Entered, entered, read-passed, write-passed, entry-first, first-held, first-passed}
 use Rattle.protocol.proofs.Plans.{Ranged, ranged}
 use Rattle.protocol.proofs.Safety.{block-below}
 use Rattle.layout.proofs.Laws.{Geometry, geometry, bounded}
-use Rattle.store.proofs.Ends.{first-held, first-passed}
 use Rattle.admission.specs.Tags.{tag-at}
 use Rattle.admission.proofs.Touched.{any-one}
 

@@ -21,10 +21,10 @@ use Rattle.volatile.specs.declared.Record.{Record}
 use Rattle.volatile.specs.declared.Commit.{Commit}
 use Rattle.protocol.specs.declared.Reply.{Reply}
 use Rattle.boards.proofs.Basics.{false-not}
-use Rattle.protocol.proofs.Refusals.{entry-stops, entry-goes-on}
+use Rattle.protocol.proofs.Refusals.{entry-stops, entry-goes-on, first-held, first-passed}
 use Rattle.store.specs.Promise.{Performed}
 use Rattle.protocol.specs.Calls.{refusal-of}
-use Rattle.store.proofs.Ends.{turned, first-held, first-passed}
+use Rattle.store.proofs.Ends.{turned}
 use Rattle.decision.specs.Executed.{Executed}
 
 -- ---- how the two calls end

@@ -23,7 +23,8 @@ use Rattle.store.proofs.Laws.{makes-then}
 use Rattle.store.proofs.Runs.{span-more, all-span}
 use Rattle.store.specs.Promise.{Formatted, reply-of}
 use Rattle.protocol.specs.Calls.{refusal-of}
-use Rattle.store.proofs.Ends.{made-outcome, first-held, first-passed}
+use Rattle.store.proofs.Ends.{made-outcome}
+use Rattle.protocol.proofs.Refusals.{first-held, first-passed}
 use Rattle.format.specs.Stores.{header-store, zero-store}
 
 -- ---- the stores

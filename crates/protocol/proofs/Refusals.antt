@@ -28,6 +28,15 @@ use Rattle.volatile.specs.declared.Record.{Record}
 abbrev Numbered : List Test → Type 0
 Numbered ts = anyOf (λ t. eqb (t .number) 0) ts ≡ false
 
+-- one test
+pub first-held : {b : Bool} (n : ℕ) (ts : List Test) → b ≡ true → first (test b n ∷ ts) ≡ n
+unfolding first
+first-held n ts e = rw e
+
+pub first-passed : {b : Bool} (n : ℕ) (ts : List Test) → b ≡ false → first (test b n ∷ ts) ≡ first ts
+unfolding first
+first-passed n ts e = rw e
+
 -- two lists of tests one after the other: the first stops the call, or the second goes on. No test has the number 0.
 pub first-stops : (ts us : List Test) → first ts ≢ 0 → first (ts ++ us) ≡ first ts
 unfolding first

@@ -15,8 +15,8 @@ use Rattle.text.specs.Fields.{line-feed, until, past}
 use Rattle.text.specs.Events.{Event, taken}
 use Rattle.text.specs.Turns.{play}
 use Rattle.text.specs.Whole.{Run as Whole, lines, most-lines, line-text, next-run, output-from}
-use Rattle.printing.specs.Append.{Appends}
-use Rattle.printing.proofs.Laws.{take-x, appends-length}
+use Rattle.digits.specs.Append.{Appends}
+use Rattle.digits.proofs.Laws.{take-x, appends-length}
 use Rattle.fields.proofs.Laws.{take-until, drop-past}
 use Rattle.turns.specs.Turned.{player-of, Turns}
 use Rattle.turns.specs.declared.Turned.{Turned}

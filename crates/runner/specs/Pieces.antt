@@ -5,7 +5,7 @@ use mathlib.Core.List.{List, [], _++_}
 use lib.ListN.{length, take, drop}
 use Rattle.text.specs.Fields.{line-feed, until}
 use Rattle.text.specs.Whole.{Run as Whole, lines, line-text, next-run, output-from}
-use Rattle.printing.specs.Append.{Appends}
+use Rattle.digits.specs.Append.{Appends}
 use Rattle.turns.specs.Turned.{player-of, area-size, line-room}
 use Rattle.runner.specs.declared.Run.{Run}
 use Rattle.runner.specs.declared.Stepped.{Stepped}

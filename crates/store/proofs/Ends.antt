@@ -1,4 +1,4 @@
--- How a call ends: from the stores made under its budget to the outcome of the definitions, and refusals in their order.
+-- How a call ends: from the stores made under its budget to the outcome of the definitions.
 use Prim.Native.Nat.{ℕ, _-_, _≤_}
 use mathlib.Core.Path.{_≡_, refl, sym, subst}
 use mathlib.Core.Bool.{Bool, true, false}
@@ -70,16 +70,6 @@ pub turned : (image : List ℕ) (state : Record) (request : Request) {k n : ℕ}
     → Performed request k image state (refusal-of n next) image
 unfolding perform refused
 turned image state request {n = n} f h e = record { reply = rw (f, ne-eqb n 0 h, e); image = rw (f, ne-eqb n 0 h) }
-
--- ---- refusals in order
-
-pub first-held : {b : Bool} (n : ℕ) (ts : List Test) → b ≡ true → first (test b n ∷ ts) ≡ n
-unfolding first
-first-held n ts e = rw e
-
-pub first-passed : {b : Bool} (n : ℕ) (ts : List Test) → b ≡ false → first (test b n ∷ ts) ≡ first ts
-unfolding first
-first-passed n ts e = rw e
 
 -- an answer that equals one that was promised
 pub answers : {request : Request} {k : ℕ} {before after : List ℕ} {state : Record} {r promised : Reply} → r ≡ promised

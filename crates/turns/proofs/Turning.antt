@@ -19,8 +19,8 @@ use Rattle.store.specs.Promise.{Performed, Formatted, Answered}
 use Rattle.text.specs.Events.{room}
 use Rattle.text.specs.Rows.{Row, row-text, rows-text}
 use Rattle.text.specs.Turns.{Player, row, moved, uncut, ended, told}
-use Rattle.printing.specs.Append.{Appends}
-use Rattle.printing.proofs.Laws.{appends-then}
+use Rattle.digits.specs.Append.{Appends}
+use Rattle.digits.proofs.Laws.{appends-then}
 use Rattle.turns.specs.Turned.{player-of, Turns, Powered, area-size, line-room}
 use Rattle.turns.specs.declared.Turned.{Turned}
 use Rattle.turns.proofs.Laws.{lent-image, outcome-of, no-bytes, perform-length, format-length, format-none}

@@ -6,7 +6,7 @@ use lib.ListN.{length, take}
 use Rattle.protocol.specs.Calls.{Outcome}
 use Rattle.text.specs.Rows.{row-text, rows-text}
 use Rattle.text.specs.Turns.{Player, Turn, row, moved}
-use Rattle.printing.specs.Append.{Appends}
+use Rattle.digits.specs.Append.{Appends}
 use Rattle.turns.specs.declared.Session.{Session}
 use Rattle.turns.specs.declared.Turned.{Turned}
 

@@ -7,7 +7,7 @@ use Rattle.boards.specs.Boards.{has}
 use Rattle.protocol.specs.Image.{view}
 use Rattle.protocol.specs.Calls.{first}
 use Rattle.layout.proofs.Laws.{bounded}
-use Rattle.store.proofs.Ends.{first-held, first-passed}
+use Rattle.protocol.proofs.Refusals.{first-held, first-passed}
 use Rattle.protocol.proofs.Plans.{ranged}
 use Rattle.admission.proofs.Tests.{read-two, read-five, read-eleven, read-last}
 use Rattle.admission.proofs.read_tests.Statement.{statement}

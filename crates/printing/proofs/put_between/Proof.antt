@@ -2,7 +2,7 @@
 use borrow.Author.Needs.{needs}
 use native.Mathlib.Omega.{arith}
 use lib.ListN.{length-set}
-use Rattle.printing.proofs.Laws.{appends-one, appends-more}
+use Rattle.digits.proofs.Laws.{appends-one, appends-more}
 use Rattle.printing.proofs.put_between.Statement.{statement}
 use Rattle.printing.proofs.put_between.Tie as tie
 

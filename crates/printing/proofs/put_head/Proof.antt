@@ -2,7 +2,7 @@
 use borrow.Author.Needs.{needs}
 use native.Mathlib.Omega.{arith}
 use Rattle.printing.specs.Parts.{head-text}
-use Rattle.printing.proofs.Laws.{appends-then, length-decimal}
+use Rattle.digits.proofs.Laws.{appends-then, length-decimal}
 use Rattle.printing.proofs.put_head.Statement.{statement}
 use Rattle.printing.proofs.put_head.Tie as tie
 

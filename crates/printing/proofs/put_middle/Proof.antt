@@ -5,7 +5,7 @@ use mathlib.Core.Logic.{⊎-elim}
 use Rattle.boards.proofs.Basics.{if-true, if-false}
 use Rattle.text.specs.Rows.{flag-text}
 use Rattle.printing.specs.Parts.{middle-text}
-use Rattle.printing.proofs.Laws.{appends-then}
+use Rattle.digits.proofs.Laws.{appends-then}
 use Rattle.printing.proofs.put_middle.Statement.{statement}
 use Rattle.printing.proofs.put_middle.Tie as tie
 

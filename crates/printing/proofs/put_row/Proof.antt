@@ -1,7 +1,8 @@
 -- `put_row` meets its contract: the three parts in a row.
 use borrow.Author.Needs.{needs}
 use native.Mathlib.Omega.{arith}
-use Rattle.printing.proofs.Laws.{appends-then, length-head, length-middle, length-row, row-parts}
+use Rattle.digits.proofs.Laws.{appends-then}
+use Rattle.printing.proofs.Laws.{length-head, length-middle, length-row, row-parts}
 use Rattle.printing.proofs.put_row.Statement.{statement}
 use Rattle.printing.proofs.put_row.Tie as tie
 

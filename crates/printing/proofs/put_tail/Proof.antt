@@ -2,7 +2,7 @@
 use borrow.Author.Needs.{needs}
 use native.Mathlib.Omega.{arith}
 use Rattle.printing.specs.Parts.{tail-text}
-use Rattle.printing.proofs.Laws.{appends-then, length-decimal, length-bytes}
+use Rattle.digits.proofs.Laws.{appends-then, length-decimal, length-bytes}
 use Rattle.printing.proofs.put_tail.Statement.{statement}
 use Rattle.printing.proofs.put_tail.Tie as tie
 

@@ -2,7 +2,7 @@
 use native.Mathlib.Omega.{arith}
 use denote.Ref.{now}
 use Rattle.text.specs.Whole.{lines}
-use Rattle.printing.proofs.Laws.{appends-length}
+use Rattle.digits.proofs.Laws.{appends-length}
 use Rattle.runner.specs.Pieces.{run-of}
 use Rattle.runner.proofs.Pieces.{nothing-left, exhausted, last-played}
 use borrow.Author.Needs.{needs}

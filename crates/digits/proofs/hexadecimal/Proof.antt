@@ -4,8 +4,8 @@ use mathlib.Core.Path.{sym}
 use borrow.Author.Tests.{lt-ltb, le-ltb}
 use Rattle.boards.proofs.Basics.{if-true, if-false}
 use Rattle.text.specs.Rows.{hexadecimal}
-use Rattle.printing.proofs.hexadecimal.Statement.{statement}
-use Rattle.printing.proofs.hexadecimal.Tie as tie
+use Rattle.digits.proofs.hexadecimal.Statement.{statement}
+use Rattle.digits.proofs.hexadecimal.Tie as tie
 
 add-result : tie.Need-add-result
 add-result c = omega arith

@@ -4,10 +4,10 @@ use native.Mathlib.Omega.{arith}
 use lib.ListN.{length, take}
 use lib.Seq.{take-all, length-take-le}
 use Rattle.text.specs.Rows.{bytes-text}
-use Rattle.printing.specs.Append.{Appends}
-use Rattle.printing.proofs.Laws.{appends-none, appends-then, appends-length, length-bytes, bytes-more}
-use Rattle.printing.proofs.put_bytes.Statement.{statement}
-use Rattle.printing.proofs.put_bytes.Tie as tie
+use Rattle.digits.specs.Append.{Appends}
+use Rattle.digits.proofs.Laws.{appends-none, appends-then, appends-length, length-bytes, bytes-more}
+use Rattle.digits.proofs.put_bytes.Statement.{statement}
+use Rattle.digits.proofs.put_bytes.Tie as tie
 
 abbrev Inv-loop : tie.InvT-loop
 Inv-loop out₀ at bytes next₀ x₀ x-end out next x =

@@ -2,9 +2,9 @@
 use borrow.Author.Needs.{needs}
 use native.Mathlib.Omega.{arith}
 use Rattle.text.specs.Rows.{decimal}
-use Rattle.printing.proofs.Laws.{appends-then, length-digit-at}
-use Rattle.printing.proofs.put_decimal.Statement.{statement}
-use Rattle.printing.proofs.put_decimal.Tie as tie
+use Rattle.digits.proofs.Laws.{appends-then, length-digit-at}
+use Rattle.digits.proofs.put_decimal.Statement.{statement}
+use Rattle.digits.proofs.put_decimal.Tie as tie
 
 put-digit-requires : tie.Need-put-digit-requires
 put-digit-requires c κs = search needs

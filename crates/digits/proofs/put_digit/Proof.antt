@@ -1,8 +1,8 @@
 -- `put_digit` meets its contract: no character, or one.
 use native.Mathlib.Omega.{arith}
-use Rattle.printing.proofs.Laws.{appends-none, digit-none, digit-some}
-use Rattle.printing.proofs.put_digit.Statement.{statement}
-use Rattle.printing.proofs.put_digit.Tie as tie
+use Rattle.digits.proofs.Laws.{appends-none, digit-none, digit-some}
+use Rattle.digits.proofs.put_digit.Statement.{statement}
+use Rattle.digits.proofs.put_digit.Tie as tie
 
 returns : tie.Need-returns
 returns c = rw (digit-none _ _ (c .if1 .taken)) (appends-none _ _ (omega arith))

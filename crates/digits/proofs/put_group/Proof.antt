@@ -3,9 +3,9 @@ use mathlib.Core.Path.{_∙_}
 use borrow.Author.Needs.{needs}
 use native.Mathlib.Omega.{arith}
 use Rattle.text.specs.Rows.{byte-text, group-text}
-use Rattle.printing.proofs.Laws.{appends-then}
-use Rattle.printing.proofs.put_group.Statement.{statement}
-use Rattle.printing.proofs.put_group.Tie as tie
+use Rattle.digits.proofs.Laws.{appends-then}
+use Rattle.digits.proofs.put_group.Statement.{statement}
+use Rattle.digits.proofs.put_group.Tie as tie
 
 cast-high : tie.Need-cast-high
 cast-high c = omega arith
