@@ -49,7 +49,8 @@ group-valid s g = also (two 0 (g % 256) (omega arith)) (also (two 1 (g / 256) (o
     deciding-byte : Valid s (put Decision 0 1)
     deciding-byte = record { body = omega arith; within = omega arith }
 
-deciding-later : (s : Shape) (m : Memory) (g : ℕ) → group-puts g ++ completing s (after (group-puts g) m) g ≡ deciding s m g
+deciding-later : (s : Shape) (m : Memory) (g : ℕ)
+    → group-puts g ++ completing s (after (group-puts g) m) g ≡ deciding s m g
 unfolding deciding completing blocks-copied block-copied context-saved copying after change rank
 deciding-later s m g = refl
 
@@ -69,7 +70,8 @@ module _ {s : Shape} {x : List ℕ} (long : length x ≡ total s) {b : Budget} (
   composed given g {r} {r″ = r″} {y = y} {w = w} valid p q t =
       then-reads given (λ m. deciding s m g) long valid well p
       (subst (λ ps. Puts s ps r y r″ w) (deciding-later s (view s y) g)
-      (then-reads (group-puts g) (λ m. completing s m g) (makes-length (p .makes) ∙ long) (group-valid s g) (makes-well (p .makes) well) q t))
+      (then-reads (group-puts g) (λ m. completing s m g) (makes-length (p .makes) ∙ long) (group-valid s g)
+      (makes-well (p .makes) well) q t))
 
 -- ---- the context, and then the commit if all have acknowledged
 
@@ -118,11 +120,14 @@ module _ {s : Shape} {x : List ℕ} (i : ℕ) (context : List ℕ) {k : ℕ} (bo
           (length-map (ps ++ group-puts g) (raw s) ∙ length-append ps (group-puts g)
           ∙ ap (λ n. n + 3) (length-placing Tentative (i * s .context) context))
           in
-          let valid = all-append (inside-valid (given-inside s i context board full)) (deciding-valid s (after ps m) g) in
+          let given-valid = inside-valid (given-inside s i context board full) in
+          let valid = all-append given-valid (deciding-valid s (after ps m) g) in
           ap not short
           ∙ ⊎-elim
-          (λ (h : ltb k (length context + 3) ≡ true). ap not h ∙ sym (undecided-before s m i g context k (ltb-true _ _ h)))
-          (λ (h : ltb k (length context + 3) ≡ false). ap not h ∙ sym (decided-after s m i g context k (ltb-false _ _ h)))
+          (λ (h : ltb k (length context + 3) ≡ true).
+          ap not h ∙ sym (undecided-before s m i g context k (ltb-true _ _ h)))
+          (λ (h : ltb k (length context + 3) ≡ false).
+          ap not h ∙ sym (decided-after s m i g context k (ltb-false _ _ h)))
           (decide (ltb k (length context + 3)))
           ∙ sym (made-decides s k (deciding-stores s m i g context) valid)
 

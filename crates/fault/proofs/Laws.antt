@@ -34,6 +34,8 @@ module _ (image : List ℕ) (state : Record) (board k : ℕ) where
   unfolding refusals plan
   fault-done {s} {after} {r} g e n f h p =
       let group = fault-group (depends state) board in
-      let puts = subst (λ x. Puts s (blocks-copied s (view s image) Recovery Current (tagged-in x)) (start k) image r after) f (p) in
+      let m = view s image in
+      let puts = subst (λ x. Puts s (blocks-copied s m Recovery Current (tagged-in x)) (start k) image r after) f p in
+      let quiet = inside-quiet s k (blocks-inside s m Recovery Current (tagged-in group) current) in
       rw (h, f)
-      (ended state (Fault board) (sym e) (sym n) (puts .makes) false (inside-quiet s k (blocks-inside s (view s image) Recovery Current (tagged-in group) current)))
+      (ended state (Fault board) (sym e) (sym n) (puts .makes) false quiet)

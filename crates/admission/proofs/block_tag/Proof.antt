@@ -14,7 +14,8 @@ div-b c = omega (arith, bounded (c .before .pre .0))
 add-result : tie.Need-add-result
 add-result c =
     let start = c .before in
-    omega (arith, bounded (start .pre .0), block-of (start .args .s) (start .args .cell) (start .pre .0) (start .pre .2))
+    let block = block-of (start .args .s) (start .args .cell) (start .pre .0) (start .pre .2) in
+    omega (arith, bounded (start .pre .0))
 
 shared-slice-read-result : tie.Need-shared-slice-read-result
 unfolding total

@@ -43,7 +43,8 @@ returns-2 c =
     let image = now (args .image) in
     own-tests image (args .state) (args .board)
     (λ s. read-tests s (view s image) (args .state) (args .board) (args .cell) (args .n) (args .room))
-    (sym (shape .before .if1 .left) ∙ common .entry-refusal .ensures) (shape .shape-of .ensures) (c .read-tests .ensures)
+    (sym (shape .before .if1 .left) ∙ common .entry-refusal .ensures) (shape .shape-of .ensures)
+    (c .read-tests .ensures)
 
 pub read-refusal-spec : {M : Type 1} → statement M
 read-refusal-spec =

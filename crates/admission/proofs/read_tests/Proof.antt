@@ -33,7 +33,8 @@ block-tag-requires : tie.Need-block-tag-requires
 block-tag-requires c κs =
     let range = c .before in
     let start = range .before .before .before in
-    let area = ranged (start .args .s) (start .args .cell) (start .args .n) (sym (range .before .bad-range .ensures) ∙ range .if1 .left) in
+    let area = ranged (start .args .s) (start .args .cell) (start .args .n)
+    (sym (range .before .bad-range .ensures) ∙ range .if1 .left) in
     (start .pre .0, start .pre .1, omega arith)
 
 cast-if3 : tie.Need-cast-if3
@@ -67,7 +68,8 @@ returns-4 c =
     let args = range .before .before .before .args in
     let member = own .has .ensures ∙ ap (λ g. has g (args .board)) (own .before .engaged .ensures) in
     sym (first-held 13 _ (sym member ∙ c .if4 .taken))
-    ∙ read-last (args .s) (view (args .s) (now (args .image))) (args .state) (args .board) (args .cell) (args .n) (args .room)
+    ∙ read-last (args .s) (view (args .s) (now (args .image))) (args .state) (args .board) (args .cell) (args .n)
+    (args .room)
     (sym (range .if1 .left) ∙ range .before .bad-range .ensures) (tag .before .if2 .left)
     (omega (arith, tag .block-tag .ensures))
 
@@ -81,7 +83,8 @@ returns-5 c =
     let args = range .before .before .before .args in
     let member = own .has .ensures ∙ ap (λ g. has g (args .board)) (own .before .engaged .ensures) in
     sym (first-passed 13 [] (sym member ∙ c .if4 .left))
-    ∙ read-last (args .s) (view (args .s) (now (args .image))) (args .state) (args .board) (args .cell) (args .n) (args .room)
+    ∙ read-last (args .s) (view (args .s) (now (args .image))) (args .state) (args .board) (args .cell) (args .n)
+    (args .room)
     (sym (range .if1 .left) ∙ range .before .bad-range .ensures) (tag .before .if2 .left)
     (omega (arith, tag .block-tag .ensures))
 

@@ -44,7 +44,8 @@ returns-2 c =
     let image = now (args .image) in
     own-tests image (args .state) (args .board)
     (λ s. write-tests s (view s image) (args .state) (args .board) (args .cell) (length (now (args .bytes))))
-    (sym (shape .before .if1 .left) ∙ common .entry-refusal .ensures) (shape .shape-of .ensures) (c .write-tests .ensures)
+    (sym (shape .before .if1 .left) ∙ common .entry-refusal .ensures) (shape .shape-of .ensures)
+    (c .write-tests .ensures)
 
 pub write-refusal-spec : {M : Type 1} → statement M
 write-refusal-spec =

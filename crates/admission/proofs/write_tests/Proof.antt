@@ -23,7 +23,8 @@ block-tag-requires : tie.Need-block-tag-requires
 block-tag-requires c κs =
     let range = c .before in
     let start = range .before .before in
-    let area = ranged (start .args .s) (start .args .cell) (start .args .n) (sym (range .bad-range .ensures) ∙ c .if1 .left) in
+    let area = ranged (start .args .s) (start .args .cell) (start .args .n)
+    (sym (range .bad-range .ensures) ∙ c .if1 .left) in
     (start .pre .0, start .pre .1, omega arith)
 
 cast-if2 : tie.Need-cast-if2

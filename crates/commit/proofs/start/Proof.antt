@@ -123,7 +123,8 @@ returns-4 c =
     let passed = sym (asked .if1 .left) ∙ asked .before .entry-refusal .ensures in
     performed (args .state) (Start (args .board) (now (args .context))) (shaped .shape-of .ensures)
     (start-passes _ _ _ _ _ _ passed (fitted .if2 .left) (sym (free .before .engaged .ensures) ∙ free .if3 .left))
-    (gave .give .ensures _ (started (args .state) (args .board) (opened .start .ensures) (grouped .commit-closure .ensures .members)))
+    (gave .give .ensures _
+    (started (args .state) (args .board) (opened .start .ensures) (grouped .commit-closure .ensures .members)))
 
 pub start-spec : {M : Type 1} → statement M
 start-spec =

@@ -94,7 +94,8 @@ same-length-2 c =
     let done = c .before .before .before .before .before in
     let told = done .before .before .before .before in
     let stored = told .before .before .before .before .before .before .before in
-    puts-length (done .complete .ensures) ∙ puts-length (told .announce .ensures) ∙ makes-length (stored .put-all .ensures)
+    puts-length (done .complete .ensures) ∙ puts-length (told .announce .ensures)
+    ∙ makes-length (stored .put-all .ensures)
 
 returns-2 : tie.Need-returns-2
 returns-2 c =

@@ -62,7 +62,8 @@ copy-blocks-requires c κs =
     let args = tested .before .before .before .args in
     let g = entry-geometry (now (args .image)) (args .state) (args .board)
     (sym (taken .if1 .left) ∙ tested .entry-refusal .ensures) in
-    (rw (shaped .shape-of .ensures) (g .sound .allowed-shape), rw (shaped .shape-of .ensures) (g .sound .long), well-start (args .k))
+    let same = shaped .shape-of .ensures in
+    (rw same (g .sound .allowed-shape), rw same (g .sound .long), well-start (args .k))
 
 clear-requires : tie.Need-clear-requires
 clear-requires c κs =

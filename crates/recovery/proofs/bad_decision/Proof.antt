@@ -43,7 +43,8 @@ returns-3 c =
     let decided = group .before in
     let args = decided .before .before .before .args in
     c .beyond .ensures
-    ∙ decision-beyond (args .s) (now (args .image)) _ (decided .if1 .left) (group .stored-group .ensures) (some .if2 .left)
+    ∙ decision-beyond (args .s) (now (args .image)) _ (decided .if1 .left) (group .stored-group .ensures)
+    (some .if2 .left)
 
 pub bad-decision-spec : {M : Type 1} → statement M
 bad-decision-spec =
