@@ -9,16 +9,17 @@ use lib.ListN.{length, getD, length-append, List·getD-append, List·getD-eq-def
 use lib.Seq.{getD-at}
 use lib.Pow.{pow-pos}
 use native.Mathlib.Omega.{arith}
-use native.Mathlib.Nat.{pow-suc}
-use borrow.Author.Tests.{ltb-true, ltb-false, leb-false, lt-leb, eq-eqb, ne-eqb, eqb-true, eqb-false}
+use native.Mathlib.Nat.{pow-suc, pow-succ', div-one, div-div-eq-div-mul}
+use borrow.Author.Tests.{ltb-true, ltb-false, lt-leb, eq-eqb, ne-eqb, eqb-true, eqb-false}
 use Rattle.boards.specs.Lists.{for}
 use Rattle.boards.specs.Boards.{has, mask, setOf, single, with-board, meets, beyond, Links, unlinked, link}
 use Rattle.boards.specs.Boards.{unlink}
 use Rattle.boards.specs.Boards.{pass, passes, commit-group, fault-group, Chain, here, step, Groups-follow-chains}
+use Rattle.boards.specs.Boards.{Words-by-members}
 use Rattle.boards.specs.Rows.{links-of, rows-of, emptied}
 use Rattle.boards.proofs.Basics.{decide, clash, and-true, true-and, false-and, and-false, or-true, true-or}
 use Rattle.boards.proofs.Basics.{or-right, not-true, false-not, refute, eqb-same, below-suc}
-use Rattle.boards.proofs.Basics.{any-none, none-any, some-any, any-some}
+use Rattle.boards.proofs.Basics.{any-none, none-any, some-any, any-some, every-at, every-all}
 
 -- ---- generic: a number is below another or not, and the elements of a loop that gives one at a time
 
@@ -312,6 +313,28 @@ module _ (d : Links) (i : ℕ) where
       chain-last (reached n (s .0) (t .0)) (t .1))
       (or-true (has g j) (meets g (λ k. d k j)) (sym (pass-has d g j l) ∙ h))
 
+  -- a bound that every dependence among sixteen boards keeps
+  reached-below : {p : ℕ} → i < p → ((a b : ℕ) → a < 16 → b < 16 → d a b ≡ true → b < p) → (n j : ℕ)
+      → has (reach n) j ≡ true → j < p
+  unfolding passes
+  reached-below small ends zero j h =
+      let l = has-below 16 (single i) j (mask-below 16 (λ j. eqb i j)) h in
+      omega (arith, eqb-true i j (sym (has-single i j l) ∙ h))
+  reached-below small ends (suc n) j h =
+      let g = reach n in
+      let l = has-below 16 (pass d g) j (pass-small d g) h in
+      ⊎-elim
+      (reached-below small ends n j)
+      (λ m.
+      let s = any-some 16 (λ k. has g k && d k j) m in
+      ends (s .0) j (s .1) l (and-true (has g (s .0)) (d (s .0) j) (s .2) .1))
+      (or-true (has g j) (meets g (λ k. d k j)) (sym (pass-has d g j l) ∙ h))
+
+  pub commit-group-within : {p : ℕ} → i < p → ((a b : ℕ) → a < 16 → b < 16 → d a b ≡ true → b < p) → (j : ℕ)
+      → has (commit-group d i) j ≡ true → j < p
+  unfolding commit-group
+  commit-group-within small ends = reached-below small ends 16
+
   -- after n passes another one changes nothing, or there are n boards at least: so sixteen suffice
   settled : (n : ℕ) → (pass d (reach n) ≡ reach n) ⊎ (n ≤ count 16 (has (reach n)))
   unfolding passes
@@ -408,8 +431,65 @@ pub links-emptied : (rows : List ℕ) (g : ℕ) → Bounded 16 (links-of rows)
 unfolding emptied
 links-emptied rows g s = links-ext (links-rows (unlink-bounded s (has g)))
 
--- the statement of the definitions
+-- ---- the statements of the definitions
+
 pub groups-follow-chains : Groups-follow-chains
-groups-follow-chains d s i l j =
+groups-follow-chains d s i l =
     let b : Bounded 16 d = record { ends = s } in
-    (in-commit-group b i l j, in-fault-group b i l j)
+    (in-commit-group b i l, in-fault-group b i l)
+
+in-set : (p : ℕ → Bool) (j : ℕ) → (has (setOf p) j ≡ true) ↔ ((j < 16) × (p j ≡ true))
+in-set p j = (
+  λ h. let l = has-below 16 (setOf p) j (mask-below 16 p) h in (l, sym (has-mask 16 p j l) ∙ h),
+  λ h. has-mask 16 p j (h .0) ∙ h .1,
+)
+
+has-bit : (g j : ℕ) → has g j ≡ eqb (g / 2 ^ j % 2) 1
+unfolding has
+has-bit g zero = ap (λ x. eqb (x % 2) 1) (sym (div-one g))
+has-bit g (suc j) =
+    has-bit (g / 2) j
+    ∙ ap (λ x. eqb (x % 2) 1) (div-div-eq-div-mul g 2 (2 ^ j) ∙ ap (λ x. g / x) (sym (pow-succ' 2 j)))
+
+pub words-by-members : Words-by-members
+words-by-members =
+    record {
+      bit = has-bit;
+      set-of = in-set;
+      with-one =
+          λ g i j.
+          let one = in-set (λ j. has g j || eqb i j) j in (
+            λ h.
+                let at = one .0 h in
+                (at .0, ⊎-elim inl (λ e. inr (eqb-true i j e)) (or-true (has g j) (eqb i j) (at .1))),
+            λ h. one .1 (h .0, ⊎-elim (true-or (eqb i j)) (λ e. or-right (has g j) (eq-eqb i j e)) (h .1)),
+          );
+      met =
+          λ g p. (
+            λ h.
+                let some = any-some 16 (λ j. has g j && p j) h in
+                let both = and-true (has g (some .0)) (p (some .0)) (some .2) in
+                (some .0, some .1, both .0, both .1),
+            λ h. meets-yes g p (h .0) (h .1) (h .2) (h .3),
+          );
+      inside =
+          λ g h. (
+            λ e j l b.
+                ⊎-elim
+                (λ n. clash b (not-true (has g j) n))
+                (λ y. y)
+                (or-true (not (has g j)) (has h j) (every-at 16 (λ j. not (has g j) || has h j) e j l)),
+            λ f.
+                every-all 16 (λ j. not (has g j) || has h j)
+                (λ j l. ⊎-elim
+                (λ e. or-right (not (has g j)) (f j l e))
+                (λ e. true-or (has h j) (false-not e))
+                (decide (has g j))),
+          );
+      linked =
+          λ d i j a b. (
+            link-cases d i j a b,
+            ⊎-elim (λ q. rw (q .0, q .1) (link-new d i j)) (link-old d i j a b),
+          );
+      left = λ p d a b. (unlink-true p d a b, λ h. true-unlink p d a b (h .0) (h .1) (h .2));
+    }

@@ -1,8 +1,8 @@
 -- Sets of boards, tags, dependences between boards, and groups (document 01, "The image", "The record", "Groups").
-use Prim.Native.Nat.{ℕ, zero, suc, _+_, _*_, _/_, _%_, _<_}
+use Prim.Native.Nat.{ℕ, zero, suc, _+_, _*_, _/_, _%_, _^_, _<_}
 use mathlib.Core.Path.{_≡_}
 use mathlib.Core.Bool.{Bool, true, false, _&&_, _||_, not, cond}
-use mathlib.Core.Logic.{_↔_}
+use mathlib.Core.Logic.{_⊎_, _↔_}
 use lib.Dec.{eqb, leb}
 use Rattle.boards.specs.Lists.{any, every}
 
@@ -88,9 +88,24 @@ pub data Chain (d : Links) : ℕ → ℕ → Type 0 where
   here : {i : ℕ} → Chain d i i
   step : {i j k : ℕ} → d i j ≡ true → Chain d j k → Chain d i k
 
+-- the boards of g are exactly those of which P holds
+abbrev pub Exactly : ℕ → (ℕ → Type 0) → Type 0
+Exactly g P = (j : ℕ) → (has g j ≡ true) ↔ P j
+
 -- A board is in the commit group of i exactly when a chain leads from i to it, in the fault group when one leads from
 -- it to i.
 abbrev pub Groups-follow-chains : Type 0
 Groups-follow-chains =
-    (d : Links) → ((a b : ℕ) → d a b ≡ true → (a < 16) × (b < 16)) → (i : ℕ) → i < 16 → (j : ℕ)
-    → ((has (commit-group d i) j ≡ true) ↔ Chain d i j) × ((has (fault-group d i) j ≡ true) ↔ Chain d j i)
+    (d : Links) → ((a b : ℕ) → d a b ≡ true → (a < 16) × (b < 16)) → (i : ℕ) → i < 16
+    → Exactly (commit-group d i) (λ j. Chain d i j) × Exactly (fault-group d i) (λ j. Chain d j i)
+
+-- What the words that calls and ledger share mean: sets by their members, links by their two boards.
+pub record Words-by-members : Type 0 where
+  pub bit : (g j : ℕ) → has g j ≡ eqb (g / 2 ^ j % 2) 1
+  pub set-of : (p : ℕ → Bool) → Exactly (setOf p) (λ j. (j < 16) × (p j ≡ true))
+  pub with-one : (g i : ℕ) → Exactly (with-board g i) (λ j. (j < 16) × ((has g j ≡ true) ⊎ (i ≡ j)))
+  pub met : (g : ℕ) (p : ℕ → Bool) → (meets g p ≡ true) ↔ ((j : ℕ) × (j < 16) × (has g j ≡ true) × (p j ≡ true))
+  pub inside : (g h : ℕ) → (within g h ≡ true) ↔ ((j : ℕ) → j < 16 → has g j ≡ true → has h j ≡ true)
+  pub linked : (d : Links) (i j a b : ℕ) → (link d i j a b ≡ true) ↔ (((a ≡ i) × (b ≡ j)) ⊎ (d a b ≡ true))
+  pub left : (p : ℕ → Bool) (d : Links) (a b : ℕ)
+      → (unlink p d a b ≡ true) ↔ ((p a ≡ false) × (p b ≡ false) × (d a b ≡ true))
