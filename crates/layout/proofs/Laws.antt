@@ -10,12 +10,12 @@ use lib.Pow.{pow-lt, pow-mono}
 use native.Mathlib.Omega.{arith}
 use native.Mathlib.Nat.{mul-le-mul}
 use borrow.Author.Tests.{eq-eqb, eqb-true, leb-true, leb-false, le-leb}
-use Rattle.boards.specs.Lists.{every, any}
-use Rattle.protocol.specs.Image.{allowed, exponent, exponent-from, total, mark, byte, shape-of, in-order, Tags, base}
+use Rattle.boards.specs.Lists.{any}
+use Rattle.protocol.specs.Image.{allowed, exponent, exponent-from, total, byte, shape-of, in-order, Tags, base}
 use Rattle.protocol.specs.Image.{size, view}
 use Rattle.protocol.specs.declared.Shape.{Shape}
-use Rattle.boards.proofs.Basics.{decide, refute, and-true, any-some, some-any}
-use Rattle.protocol.proofs.Bridge.{Limits, limits, Sound, view-at}
+use Rattle.boards.proofs.Basics.{decide, refute, any-some, some-any}
+use Rattle.protocol.proofs.Bridge.{Limits, limits, Sound, order-sound, view-at}
 
 -- ---- sizes
 
@@ -104,21 +104,19 @@ pub record Geometry (most : ℕ) (s : Shape) (image : List ℕ) : Type 0 where
   pub decision : byte image 9 ≤ most
 
 pub geometry : {most : ℕ} {image : List ℕ} → in-order most image ≡ true → Geometry most (shape-of image) image
-unfolding in-order shape-of total
+unfolding shape-of total
 geometry {image} h =
     let s = shape-of image in
-    let a = and-true (every 4 (λ i. eqb (byte image i) (byte mark i))) _ h in
-    let b = and-true (allowed s) _ (a .1) in
-    let c = and-true (eqb (length image) (total s)) _ (b .1) in
-    let long = eqb-true _ _ (c .0) in
-    let shape = bounded {s = s} (b .0) in
+    let both = order-sound h in
+    let long = both .0 .long in
+    let shape = bounded {s = s} (both .0 .allowed-shape) in
     let q = shape .limits .power in
     record {
-      sound = record { allowed-shape = b .0; shape = refl; marked = a .0; long = long };
+      sound = both .0;
       shape = shape;
       enough = omega arith;
       power = power-within (q .0) (byte image 5) (q .1) (q .2);
-      decision = leb-true _ _ (c .1);
+      decision = both .1;
     }
 
 -- the same of a shape that was read from it

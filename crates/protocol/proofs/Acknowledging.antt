@@ -19,13 +19,12 @@ use Rattle.protocol.specs.Ledger.{acknowledged, members-of, all-undone}
 use Rattle.protocol.specs.Claim.{Commits}
 use Rattle.protocol.specs.declared.Shape.{Shape}
 use Rattle.volatile.specs.declared.Record.{Record}
-use Rattle.boards.proofs.Basics.{decide, All, all-append, all-take}
-use Rattle.protocol.proofs.Bridge.{Valid}
+use Rattle.boards.proofs.Basics.{decide, all-take}
 use Rattle.protocol.proofs.Copies.{placing-other}
 use Rattle.protocol.proofs.Safety.{Idle, Safe, idle, deciding-stores, before-decision, after-decision}
 use Rattle.protocol.proofs.Safety.{decision-done, stores-parts, announced, announced-length, idle-same}
 use Rattle.protocol.proofs.Outcomes.{decisive, Finished, Stopped, cut-not-done}
-use Rattle.protocol.proofs.Plans.{inside-valid, given-inside, deciding-valid, inside-indecisive}
+use Rattle.protocol.proofs.Plans.{given-inside, inside-indecisive}
 use Rattle.protocol.proofs.Plans.{undecided-before, decided-after}
 use Rattle.protocol.proofs.Agreement.{On, Off, off-undone, on-idle, agrees-none, kept-cell}
 use Rattle.protocol.proofs.Commits.{the-commit, handed-commits, given-on, decision-safe, decided-on}
@@ -68,14 +67,6 @@ module _ {s : Shape} {m : Memory} {r : Record} {l : Ledger} (h : On s m r l) (mo
     all-next : everybody ≡ true → the-plan .next ≡ clear (acknowledge r i) g
     unfolding acknowledging commit-of acknowledge
     all-next e = rw e
-
-    pub stores-valid : All (Valid s) (the-plan .stores)
-    stores-valid =
-        let given = inside-valid (given-inside s i context board full) in
-        ⊎-elim
-        (λ (e : everybody ≡ true). rw (all-stores e) (all-append given (deciding-valid s (after given-puts m) g)))
-        (λ (e : everybody ≡ false). rw (some-stores e) given)
-        (decide everybody)
 
     -- the members, by the plan and by the ledger
     plan-group : the-plan .group ≡ members-of i (l .commits)

@@ -2,7 +2,7 @@
 use Prim.Native.Nat.{ℕ, zero, suc, _+_, _*_, _^_, _≤_, _<_}
 use mathlib.Core.Path.{_≡_, refl, sym, _∙_, ap, ap₂, fun-ext}
 use mathlib.Core.Bool.{Bool, true, false, _&&_, cond}
-use mathlib.Core.List.{List, [], _∷_, _++_, map}
+use mathlib.Core.List.{List, [], _∷_, map}
 use mathlib.Core.Logic.{_≢_, ⊎-elim}
 use lib.Dec.{eqb, ltb, leb, lit<}
 use lib.ListN.{length, getD, set, take, drop, length-set}
@@ -10,17 +10,15 @@ use lib.Seq.{getD-set-same, getD-set-other, drop-cons}
 use lib.Pow.{pow-pos, pow-mono}
 use native.Mathlib.Omega.{arith}
 use native.Mathlib.Nat.{add-suc, not-suc-le-zero, mul-le-mul-right, suc-mul}
-use borrow.Author.Tests.{eq-eqb, ne-eqb, eqb-true, leb-true, lt-leb, lt-ltb, le-ltb, ltb-true, ltb-false}
+use borrow.Author.Tests.{eq-eqb, eqb-true, leb-true, lt-leb, lt-ltb, le-ltb, ltb-true, ltb-false}
 use Rattle.boards.specs.Lists.{span, every, any}
 use Rattle.protocol.specs.Image.{Area, Header, Decision, Group, Tags, Current, Recovery, Tentative, Checkpoint}
-use Rattle.protocol.specs.Image.{Memory, contexts, allowed, total, base, size, rank, mark, byte, shape-of}
+use Rattle.protocol.specs.Image.{contexts, allowed, total, base, size, rank, mark, byte, shape-of}
 use Rattle.protocol.specs.Image.{in-order, view, Store, made, Put, put, raw, change, after}
 use Rattle.protocol.specs.Calls.{decides, first, context-tests, context-status, context-part}
 use Rattle.protocol.specs.declared.Shape.{Shape}
-use Rattle.boards.proofs.Basics.{decide, clash, and-true, true-and, test-ext, if-true, if-false, eqb-same, below-suc}
-use Rattle.boards.proofs.Basics.{every-at, every-all, any-some, All, none, also, all-take, take-append, take-map}
-use Rattle.protocol.proofs.Memory.{Away, after-append, after-local, change-area, change-away, change-index}
-use Rattle.protocol.proofs.Memory.{change-same, else-area, else-index, untouched}
+use Rattle.boards.proofs.Basics.{decide, clash, and-true, true-and, test-ext, if-true, if-false, below-suc}
+use Rattle.boards.proofs.Basics.{every-at, every-all, any-some, All, none, also}
 
 -- what is equal to either arm of a choice where that arm is taken
 either : {X : Type 0} (b : Bool) {x y z : X} → (b ≡ true → z ≡ x) → (b ≡ false → z ≡ y) → z ≡ cond b x y
@@ -75,6 +73,16 @@ pub record Sound (s : Shape) (image : List ℕ) : Type 0 where
 pub in-order-sound : (s : Shape) (image : List ℕ) → Sound s image → (k : ℕ) → in-order k image ≡ leb (byte image 9) k
 unfolding in-order
 in-order-sound s image h k = rw (h .marked, h .shape, h .allowed-shape, eq-eqb _ _ (h .long))
+
+pub order-sound : {most : ℕ} {image : List ℕ} → in-order most image ≡ true
+    → Sound (shape-of image) image × (byte image 9 ≤ most)
+unfolding in-order
+order-sound {image = image} h =
+    let s = shape-of image in
+    let a = and-true (every 4 (λ i. eqb (byte image i) (byte mark i))) _ h in
+    let b = and-true (allowed s) _ (a .1) in
+    let c = and-true (eqb (length image) (total s)) _ (b .1) in
+    (record { allowed-shape = b .0; shape = refl; marked = a .0; long = eqb-true _ _ (c .0) }, leb-true _ _ (c .1))
 
 -- an image is sound by the bytes of its header, if they are those of a list with the mark and the shape
 pub sound-bytes : {s : Shape} (from image : List ℕ) → ((i : ℕ) → i < 9 → byte image i ≡ byte from i) →

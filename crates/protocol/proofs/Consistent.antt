@@ -1,6 +1,6 @@
 -- The invariant of the ledger, kept by every step: the order of writes and links in each cell, reads, open commits.
 use Prim.Native.Nat.{ℕ, zero, suc, _+_, _/_, _≤_, _<_}
-use mathlib.Core.Path.{_≡_, refl}
+use mathlib.Core.Path.{_≡_, refl, sym, _∙_, ap, subst}
 use mathlib.Core.Bool.{Bool, true, false, _&&_, not}
 use mathlib.Core.List.{List, [], _∷_, map}
 use mathlib.Core.Option.{Option, none, some}
@@ -10,23 +10,27 @@ use lib.ListN.{length}
 use native.Mathlib.Omega.{arith}
 use borrow.Author.Tests.{leb-true, ltb-true, lt-ltb}
 use Rattle.boards.specs.Lists.{span, anyOf, select}
-use Rattle.boards.specs.Boards.{has, meets, Links, link, unlink, Chain, here}
-use Rattle.protocol.specs.Accesses.{touched, Binding, two-way, read-binding, write-binding, bind-blocks}
-use Rattle.protocol.specs.Ledger.{Fate, pending, kept, undone, Wrote, Read-from, Note, Open-commit, Ledger, blank}
+use Rattle.boards.specs.Boards.{has, meets, Links, unlinked, link, unlink, Chain, here}
+use Rattle.protocol.specs.Accesses.{touched, Binding, read-binding, write-binding, bind-blocks}
+use Rattle.protocol.specs.Ledger.{Access, Fate, pending, kept, undone, Wrote, Read-from, Note, Open-commit}
+use Rattle.protocol.specs.Ledger.{Ledger, blank}
 use Rattle.protocol.specs.Ledger.{is-pending, covers, written, sources-of, wrote-in, writer, source, settled}
 use Rattle.protocol.specs.Ledger.{cleared, all-undone, noted, started, acknowledged-by, with-context, decided}
 use Rattle.protocol.specs.Ledger.{reads-undone}
+use Rattle.protocol.specs.Dependences.{width, is-write, came-upon, depends-by-notes}
 use Rattle.protocol.specs.declared.Shape.{Shape}
 use Rattle.boards.proofs.Basics.{decide, clash, refute, and-true, true-and, and-false, All, none, also, all-map}
-use Rattle.boards.proofs.Basics.{anyOf-false}
+use Rattle.boards.proofs.Basics.{anyOf-false, length-span}
 use Rattle.boards.proofs.Groups.{Forward, Backward, Bounded, bounded-more, unlink-true, unlink-bounded}
-use Rattle.boards.proofs.Groups.{unlinked-bounded, commit-group-forward}
+use Rattle.boards.proofs.Groups.{links-ext, unlinked-bounded, commit-group-forward}
 use Rattle.protocol.proofs.Marks.{settle, untag, Ends, mark, marks, To, to, From, from, Above, Top, Kept-order}
 use Rattle.protocol.proofs.Marks.{above-map, top-map, commit-order, rollback-order, marks-settled}
 use Rattle.protocol.proofs.Marks.{writer-settled, keeps, undoes, At, Sourced, on-kept, on-pending, sourced}
 use Rattle.protocol.proofs.Soundness.{Good, Backed, by-none, by-kept, by-pending, backed, good-more, good-commit}
 use Rattle.protocol.proofs.Soundness.{good-rollback, untainted}
 use Rattle.protocol.proofs.Accesses.{cell-touched, all-found, binds-wider, binds-from, binds-to, binds-bounded}
+use Rattle.protocol.proofs.Dependences.{Narrow, all-bind, writes-bind, goes-forth, goes-back, depends-settled}
+use Rattle.protocol.proofs.Dependences.{depends-noted}
 use Rattle.protocol.proofs.Accesses.{binds-forward, Outside, from-more, to-more}
 
 pub record Consistent (s : Shape) (l : Ledger) : Type 0 where
@@ -35,6 +39,9 @@ pub record Consistent (s : Shape) (l : Ledger) : Type 0 where
   pub order : (a : ℕ) → Kept-order (l .links) (writer s (l .notes) (a / s .size)) (marks (l .notes) a)
   pub reads : All (Good (l .links) (l .notes)) (l .notes)
   pub closed : All (λ c. Forward (has (c .members)) (l .links)) (l .commits)
+  -- every note has at most S cells, and the links are those told from the notes
+  pub narrow : Narrow s (l .notes)
+  pub told : (i j : ℕ) → l .links i j ≡ depends-by-notes s (l .notes) i j
 
 -- ---- lists of notes and commits
 
@@ -76,6 +83,8 @@ module _ {s : Shape} {l : Ledger} (c : Consistent s l) (p : ℕ → Bool) where
         order = λ a. rw (writer-settled s p e (l .notes) (a / s .size), marks-settled p f (l .notes) a) (order a);
         reads = all-mapped (settled p f) good (c .reads);
         closed = cleared-commits;
+        narrow = all-mapped (settled p f) (λ n h. h) (c .narrow);
+        told = λ i j. ap (λ d. unlink p d i j) (links-ext (c .told)) ∙ sym (depends-settled s p e (l .notes) i j);
       }
 
   pub cleared-commit : Forward p (l .links) → Consistent s (cleared p kept l)
@@ -166,6 +175,27 @@ module _ {s : Shape} {l : Ledger} (c : Consistent s l) {how : ℕ → Binding} {
           top = top-map (λ m h. from-more wider h) (o .top);
         }
 
+    -- the links made are those told from the notes, the new one among them
+    module _ (access : Access) (wide : width access ≡ n) where
+      abbrev new-note : Note
+      new-note = record { board = i; cell = a; access = access; fate = pending }
+
+      linked-told : ((b : ℕ) → goes-forth (how b) ≡ all-bind new-note b)
+          → ((b : ℕ) → goes-back (how b) ≡ writes-bind new-note b) → (x y : ℕ)
+          → linked x y ≡ depends-by-notes s (new-note ∷ l .notes) x y
+      unfolding linked is-pending
+      linked-told to-writer to-board x y =
+          let some = ok .some in
+          let few = ok .few in
+          let tags = writer s (l .notes) in
+          ap (λ d. bind-blocks link how tags d i (touched s a n) x y) (links-ext (c .told))
+          ∙ subst
+          (λ w. bind-blocks link how tags (depends-by-notes s (l .notes)) i (touched s a w) x y
+          ≡ depends-by-notes s (new-note ∷ l .notes) x y)
+          wide
+          (depends-noted s (ok .positive) (l .notes) (c .narrow) new-note refl (omega arith) (omega arith) how
+          to-writer to-board x y)
+
     -- a cell of a touched block: what is known of its tag
     tag-from : (x : ℕ) → anyOf (eqb (x / s .size)) (touched s a n) ≡ true → (m : ℕ)
         → From (l .links) m (writer s (l .notes) (x / s .size)) → Chain linked i m
@@ -202,10 +232,11 @@ all-span f a (suc n) h = also (h a (omega arith) (omega arith))
 
 module _ {s : Shape} {l : Ledger} (c : Consistent s l) {i a n : ℕ} (ok : Access-ok s read-binding i a n l) where
   pub noted-read : Consistent s (noted s read-binding i a n (Read-from (span (source (l .notes)) a n)) l)
-  unfolding noted linked writer wrote-in written marks sources-of
+  unfolding noted linked writer wrote-in written marks sources-of width read-binding goes-forth goes-back is-write
   noted-read =
       let os = span (source (l .notes)) a n in
       let new : Note = record { board = i; cell = a; access = Read-from os; fate = pending } in
+      let wide : length os ≡ n = length-span (source (l .notes)) a n in
       record {
         bounded = linked-bounded c ok;
         boards = also (ok .board) (c .boards);
@@ -216,6 +247,8 @@ module _ {s : Shape} {l : Ledger} (c : Consistent s l) {i a n : ℕ} (ok : Acces
             source-backed c ok os x (cell-touched s a n x (ok .positive) (ok .few) lo hi))))
             (older-reads c ok new);
         closed = linked-closed c ok;
+        narrow = also {x = new} (let few = ok .few in omega (arith, wide)) (c .narrow);
+        told = linked-told c ok (Read-from os) wide (λ b. refl) (λ b. refl);
       }
 
 module _ {s : Shape} {l : Ledger} (c : Consistent s l) {i a : ℕ} (bytes : List ℕ)
@@ -285,7 +318,7 @@ module _ {s : Shape} {l : Ledger} (c : Consistent s l) {i a : ℕ} (bytes : List
       (decide (anyOf (eqb (x / s .size)) (touched s a (length bytes))))
 
   pub noted-write : Consistent s (noted s (write-binding s a (length bytes)) i a (length bytes) (Wrote bytes) l)
-  unfolding noted new-write linked sources-of
+  unfolding noted new-write linked sources-of width write-binding goes-forth goes-back is-write
   noted-write =
       record {
         bounded = linked-bounded c ok;
@@ -293,6 +326,8 @@ module _ {s : Shape} {l : Ledger} (c : Consistent s l) {i a : ℕ} (bytes : List
         order = write-order;
         reads = also (backed none) (older-reads c ok new-write);
         closed = linked-closed c ok;
+        narrow = also (ok .few) (c .narrow);
+        told = linked-told c ok (Wrote bytes) refl (λ b. refl) (λ b. refl);
       }
 
 -- ---- commits
@@ -306,6 +341,8 @@ started-ok h c i =
       order = c .order;
       reads = c .reads;
       closed = also (commit-group-forward (bounded-more (c .bounded) h) i) (c .closed);
+      narrow = c .narrow;
+      told = c .told;
     }
 
 joined-closed : {d : Links} (i : ℕ) (cs : List Open-commit) → All (λ c. Forward (has (c .members)) d) cs
@@ -324,6 +361,8 @@ handed-ok {l = l} c i context =
       order = c .order;
       reads = c .reads;
       closed = joined-closed i (l .commits) (c .closed);
+      narrow = c .narrow;
+      told = c .told;
     }
 
 pub decided-ok : {s : Shape} {l : Ledger} → Consistent s l → (g : ℕ) → Forward (has g) (l .links)
@@ -331,12 +370,20 @@ pub decided-ok : {s : Shape} {l : Ledger} → Consistent s l → (g : ℕ) → F
 unfolding decided
 decided-ok c g f =
     let k = cleared-commit c (has g) f in
-    record { bounded = k .bounded; boards = k .boards; order = k .order; reads = k .reads; closed = k .closed }
+    record {
+      bounded = k .bounded;
+      boards = k .boards;
+      order = k .order;
+      reads = k .reads;
+      closed = k .closed;
+      narrow = k .narrow;
+      told = k .told;
+    }
 
 -- ---- the beginning, and what the claim says of the reads
 
 pub blank-ok : (s : Shape) → Consistent s (blank s)
-unfolding blank writer marks
+unfolding blank writer marks depends-by-notes came-upon unlinked
 blank-ok s =
     record {
       bounded = unlinked-bounded (s .boards);
@@ -344,6 +391,8 @@ blank-ok s =
       order = λ a. record { above = Above.empty; top = Top.empty };
       reads = none;
       closed = none;
+      narrow = none;
+      told = λ i j. sym (and-false (not (eqb i j)) refl);
     }
 
 pub clean-reads : {s : Shape} {l : Ledger} → Consistent s l → anyOf (reads-undone (l .notes)) (l .notes) ≡ false

@@ -1,68 +1,49 @@
--- Demand 3: every call of every list keeps memory, record and ledger together, and answers what the ledger says.
-use Prim.Native.Nat.{ℕ, zero, suc, _+_, _*_, _≤_, _<_}
-use mathlib.Core.Path.{_≡_, refl, sym, _∙_, ap, ap₂, subst}
-use mathlib.Core.Bool.{Bool, true, false, _||_, not, true≢false}
-use mathlib.Core.List.{List, [], _∷_, _++_, map, append-nil}
-use mathlib.Core.Option.{some}
-use mathlib.Core.Logic.{⊎-elim, _≢_}
-use lib.Dec.{eqb, ltb}
-use lib.ListN.{length, length-replicate, getD-replicate}
+-- Demand 3: what the invariant gives at each point of every list of calls, from a finished format on.
+use Prim.Native.Nat.{ℕ, _+_, _*_, _<_, suc}
+use mathlib.Core.Path.{_≡_, refl, sym, _∙_, ap}
+use mathlib.Core.Bool.{true, false, not}
+use mathlib.Core.List.{List, [], _∷_}
+use mathlib.Core.Logic.{_⊎_, ⊎-elim}
+use lib.Dec.{eqb}
+use lib.ListN.{length-replicate, getD-replicate}
 use lib.Seq.{ext-getD}
+use lib.Pow.{pow-pos}
 use native.Mathlib.Omega.{arith}
-use native.Mathlib.Nat.{not-suc-le-zero}
-use borrow.Author.Tests.{eqb-true, ne-eqb, le-ltb}
-use Rattle.boards.specs.Lists.{span, anyOf, select}
-use Rattle.boards.specs.Boards.{has, meets, tagged-in, unlinked, fault-group, commit-group}
-use Rattle.protocol.specs.Image.{Decision, Tags, Current, Recovery, Checkpoint, Memory, rank, after, cells, view}
-use Rattle.protocol.specs.Image.{in-order, size}
-use Rattle.volatile.specs.Volatile.{closed, fresh, off, depends, engaged, clear, opened, bad-record}
-use Rattle.protocol.specs.Calls.{Request, Read, Write, Start, Acknowledge, Fault, Power-up, Test, first, refusals}
-use Rattle.protocol.specs.Calls.{entry-tests, read-tests, write-tests, start-tests, acknowledge-tests}
-use Rattle.protocol.specs.Calls.{power-tests}
-use Rattle.protocol.specs.Calls.{bad-tags, bad-decision, plan, format, Outcome, record-refused, blocks-copied}
-use Rattle.protocol.specs.Accesses.{touched, Binding, one-way, two-way, read-binding, write-binding}
-use Rattle.protocol.specs.Ledger.{Verdict, refused, done, cut, undone, Note, Open-commit, Ledger, blank, writer}
-use Rattle.protocol.specs.Ledger.{source, sources-of, decides-now, noted, started, cleared, all-undone}
-use Rattle.protocol.specs.Ledger.{commit-effect, effect, update}
-use Rattle.protocol.specs.Claim.{verdict, System, Call, waits, answer, next, formatted, Holds, bytes-from, newest}
-use Rattle.protocol.specs.Claim.{Commits, Answers, Faithful, end, and-then, Demand-3, Format-done}
+use borrow.Author.Tests.{eqb-true}
+use Rattle.boards.specs.Lists.{span}
+use Rattle.boards.specs.Boards.{unlinked}
+use Rattle.protocol.specs.Image.{Decision, Tags, Current, Recovery, Checkpoint, rank, view, byte, base}
+use Rattle.protocol.specs.Image.{size}
+use Rattle.volatile.specs.Volatile.{closed, fresh}
+use Rattle.protocol.specs.Calls.{format, Outcome}
+use Rattle.protocol.specs.Ledger.{done, blank, writer}
+use Rattle.protocol.specs.Claim.{verdict, System, Call, answer, next, formatted, Holds}
+use Rattle.protocol.specs.Claim.{Faithful, end, and-then, Demand-3, Format-done}
 use Rattle.protocol.specs.declared.Shape.{Shape}
 use Rattle.volatile.specs.declared.Record.{Record}
-use Rattle.volatile.specs.declared.Commit.{Commit}
-use Rattle.boards.proofs.Basics.{decide, clash, or-false, not-false, none-any, All, none, also, all-map, false-anyOf}
+use Rattle.boards.proofs.Basics.{decide, clash}
 use Rattle.boards.proofs.Basics.{getD-span, length-span}
-use Rattle.boards.proofs.Groups.{Backward, bounded-more, fault-group-backward, commit-group-self, has-zero}
+use Rattle.boards.proofs.Groups.{has-zero}
 use Rattle.volatile.proofs.Records.{depends-fresh}
-use Rattle.protocol.proofs.Refusals.{entered, read-passed, write-passed, start-passed, acknowledge-passed}
-use Rattle.protocol.proofs.Refusals.{entry-first}
-use Rattle.protocol.proofs.Marks.{marks, live, saved, live-byte, byte-older}
-use Rattle.protocol.proofs.Accesses.{Outside, reading, untagged, writing}
-use Rattle.protocol.proofs.Consistent.{Consistent, Access-ok, blank-ok, clean-reads}
-use Rattle.protocol.proofs.Bridge.{Sound, Limits, limits, in-order-sound, view-at, view-decision, context-of}
+use Rattle.volatile.proofs.Order.{fresh-order, in-order as orderly-record, orderly}
+use Rattle.protocol.proofs.Outcomes.{not-done, cut-not-done}
+use Rattle.protocol.proofs.Marks.{marks, live, saved, live-byte}
+use Rattle.protocol.proofs.Consistent.{blank-ok, clean-reads}
+use Rattle.protocol.proofs.Bridge.{Sound, view-at, view-decision, context-of, limits}
 use Rattle.protocol.proofs.Format as Format
-use Rattle.protocol.proofs.Copies.{blocks-inside, current}
-use Rattle.protocol.proofs.Safety.{Safe, idle, deciding, rollback-through, recovering-safe, write-through}
-use Rattle.protocol.proofs.Outcomes.{Finished, Stopped, Result, turned-away, stopped, finished, result, not-done}
-use Rattle.protocol.proofs.Outcomes.{cut-not-done, not-cut}
-use Rattle.protocol.proofs.Plans.{Ranged, ranged, touched-below, inside-valid, write-inside, recovering-valid}
-use Rattle.protocol.proofs.Agreement.{On, Off, Agrees, nobody, somebody, kept-cell, on-idle, off-undone, powered}
-use Rattle.protocol.proofs.Agreement.{agrees-none}
-use Rattle.protocol.proofs.Steps.{tags-written, read-done, write-done, fault-done}
-use Rattle.protocol.proofs.Commits.{opened-on}
-use Rattle.protocol.proofs.Acknowledging.{stores-valid, done-agrees, cut-agrees}
+use Rattle.protocol.proofs.Copies.{current}
+use Rattle.protocol.proofs.Agreement.{On, nobody}
+use Rattle.protocol.proofs.Invariant.{Invariant, up, down, step}
+use Rattle.protocol.proofs.Order.{Ready, no-state-refusal, next-ready}
+use Rattle.protocol.specs.Dependences.{last-by}
+use Rattle.protocol.proofs.Dependences.{names-eqb, writer-last}
 
--- ---- the invariant of a list of calls
+-- ---- what the claim says at each point
 
-pub data Invariant (s : Shape) (w : System) : Type 0 where
-  up : Sound s (w .image) → w .waiting ≡ false → On s (view s (w .image)) (w .state) (w .ledger) → Invariant s w
-  down : Sound s (w .image) → w .waiting ≡ true → w .state .on ≡ false → Off s (view s (w .image)) (w .ledger)
-      → Invariant s w
-
--- it gives what the claim says at each point
-module _ {s : Shape} {w : System} (h : Sound s (w .image)) where
-  on-holds : On s (view s (w .image)) (w .state) (w .ledger) → Holds s w
+module _ {s : Shape} (w : System) (h : Sound s (w .image)) (on : On s (view s (w .image)) (w .state) (w .ledger)) where
+  on-holds : w .waiting ≡ false → Ready s w → Holds s w
   unfolding size
-  on-holds on =
+  on-holds q ready =
       record {
         current =
             λ _ a k.
@@ -72,8 +53,21 @@ module _ {s : Shape} {w : System} (h : Sound s (w .image)) where
             let c = context-of h (sym (view-decision h) ∙ on .undecided) i k in
             (c .0, c .1 ∙ kept-context i k);
         reads = clean-reads (on .consistent);
+        links = on .consistent .told;
+        rows = λ _ i j. ap (λ d. d i j) (on .links) ∙ on .consistent .told i j;
+        tags = λ _ b j l. tag-told b j l;
+        powered = orderly (s .boards) (w .state) (ready .state q) .on ∙ sym (ap not q);
+        ready = λ _. no-state-refusal w h on (ready .state q);
       }
     where
+      -- a block's tag, by the notes
+      tag-told : (b j : ℕ) → b < s .blocks
+          → eqb (byte (w .image) (base s Tags + b)) (suc j) ≡ last-by s (w .ledger .notes) j b
+      tag-told b j l =
+          ap (λ t. eqb t (suc j)) (sym (view-at s (w .image) Tags b l) ∙ on .tags b l)
+          ∙ names-eqb (writer s (w .ledger .notes) b) j
+          ∙ writer-last s (limits s (h .allowed-shape) .some-size) (w .ledger .notes) (on .consistent .narrow) j b
+
       kept-context : (i : ℕ) → i < s .boards
           → span (view s (w .image) Checkpoint) (i * s .context) (s .context) ≡ w .ledger .kept i
       kept-context i k =
@@ -87,435 +81,28 @@ module _ {s : Shape} {w : System} (h : Sound s (w .image)) where
           ) in
           getD-span (view s (w .image) Checkpoint) (i * s .context) (s .context) x 0 x< ∙ on .contexts i x k x<)
 
-holds : {s : Shape} {w : System} → Invariant s w → Holds s w
-holds (up h q on) = on-holds h on
-holds (down h q o c) =
+holds : {s : Shape} {w : System} → Invariant s w → Ready s w → Holds s w
+holds {w = w} (up h q on) ready = on-holds w h on q ready
+holds (down h q o c) ready =
     record {
       current = λ e. clash q e;
       context = λ e. clash q e;
       reads = clean-reads (c .consistent);
+      links = c .consistent .told;
+      rows = λ e. clash q e;
+      tags = λ e. clash q e;
+      powered = o ∙ sym (ap not q);
+      ready = λ e. clash q e;
     }
 
--- ---- a refused call changes nothing
+-- ---- every list
 
-refused-same : (s : Shape) (w : System) (c : Request) (k : ℕ) → verdict (answer w c k) ≡ refused
-    → answer w c k .image ≡ w .image
-    → answer w c k .reply .next ≡ w .state → next s w c k ≡ w
-unfolding next update waits
-refused-same s w c k v p q =
-    λ j. record {
-      image = p j;
-      state = q j;
-      ledger = update s c k (v j) (w .ledger);
-      waiting = waits c (v j) (w .waiting);
-    }
-
--- ---- how a call's end carries the invariant on
-
-module _ (s : Shape) (w : System) (c : Request) (k : ℕ) where
-  abbrev memory : Memory
-  memory = view s (w .image)
-
-  refused-on : Invariant s w → verdict (answer w c k) ≡ refused → answer w c k .image ≡ w .image
-      → answer w c k .reply .next ≡ w .state
-      → Invariant s (next s w c k)
-  refused-on i v p q = subst (λ x. Invariant s x) (sym (refused-same s w c k v p q)) i
-
-  ended-on : Finished s memory (plan s memory (w .state) c) (answer w c k) → waits c done (w .waiting) ≡ false
-      → On s (view s (answer w c k .image)) (answer w c k .reply .next) (effect s c k (w .ledger))
-      → Invariant s (next s w c k)
-  unfolding next update
-  ended-on f q on = up (f .sound) (rw (f .ended) q) (rw (f .ended) on)
-
-  finished-on : Finished s memory (plan s memory (w .state) c) (answer w c k) → waits c done (w .waiting) ≡ false
-      → On s (after (plan s memory (w .state) c .stores) memory) (plan s memory (w .state) c .next)
-      (effect s c k (w .ledger))
-      → Invariant s (next s w c k)
-  finished-on f q on = ended-on f q (rw (f .memory, f .next) on)
-
-  stopped-off : Stopped s memory (plan s memory (w .state) c) k (answer w c k)
-      → Off s (view s (answer w c k .image)) (all-undone (commit-effect s c k (w .ledger)))
-      → Invariant s (next s w c k)
-  unfolding next update waits off
-  stopped-off f o = down (f .sound) (rw (f .ended)) (ap (λ r. r .on) (f .next)) (rw (f .ended) o)
-
--- ---- accesses
-
--- the boards that an access which is not refused may bind
-outside-commits : {p : ℕ} {o : Commit} {cs : List Open-commit} {how : ℕ → Binding} {tag : ℕ → ℕ} (i : ℕ) (bs : List ℕ)
-    → Agrees p o cs → has (o .members) i ≡ false → All (λ b. Outside (has (o .members)) (how b) (tag b)) bs
-    → All (λ c. (has (c .members) i ≡ false) × All (λ b. Outside (has (c .members)) (how b) (tag b)) bs) cs
-outside-commits i bs (nobody e f) out os = none
-outside-commits i bs (somebody b) out os = also (out, os) none
-
-all-reading : {p : ℕ → Bool} {tag : ℕ → ℕ} (bs : List ℕ) → All (λ b. Outside p (read-binding b) (tag b)) bs
-unfolding read-binding
-all-reading [] = none
-all-reading (b ∷ bs) = also reading (all-reading bs)
-
--- a write to blocks of which no tag names one of g
-untied : (s : Shape) (g a n : ℕ) (tag tag′ : ℕ → ℕ) (bs : List ℕ) → All (λ b. tag b ≡ tag′ b) bs
-    → anyOf (tagged-in g) (map tag bs) ≡ false → All (λ b. Outside (has g) (write-binding s a n b) (tag′ b)) bs
-unfolding write-binding tagged-in anyOf
-untied s g a n tag tag′ [] none e = none
-untied s g a n tag tag′ (b ∷ bs) (also same rest) e =
-    let both = or-false (tagged-in g (tag b)) (anyOf (tagged-in g) (map tag bs)) e in
-    also (outside (tag′ b) (ap (tagged-in g) (sym same) ∙ both .0)) (untied s g a n tag tag′ bs rest (both .1))
-  where
-    outside : (t : ℕ) → tagged-in g t ≡ false → Outside (has g) two-way t
-    outside zero e = untagged
-    outside (suc j) e = writing e
-
-module _ {s : Shape} {w : System} (h : Sound s (w .image)) (q : w .waiting ≡ false)
-    (on : On s (view s (w .image)) (w .state) (w .ledger)) where
-  abbrev m : Memory
-  m = view s (w .image)
-
-  bound : Limits s
-  bound = limits s (h .allowed-shape)
-
-  positive : 0 < s .size
-  positive = bound .some-size
-
-  -- the first tests of a board's call, and its own
-  begun : (i : ℕ) (ts : List Test) → first (entry-tests (w .image) (w .state) i ++ ts) ≡ 0
-      → (i < s .boards) × (first ts ≡ 0)
-  begun i ts e =
-      let both = entry-first (w .image) (w .state) i ts e in
-      (entered (w .image) (w .state) i (h .shape) (both .0) .board, both .1)
-
-  -- what a read that is not refused has passed
-  read-ok : (i a n room : ℕ) → first (refusals (w .image) s m (w .state) (Read i a n room)) ≡ 0
-      → Access-ok s read-binding i a n (w .ledger) × All (λ b. b < s .blocks) (touched s a n) × Ranged s a n
-  unfolding refusals engaged
-  read-ok i a n room e =
-      let both = begun i (read-tests s m (w .state) i a n room) e in
-      let p = read-passed s m (w .state) i a n room (both .1) in
-      let r = ranged s a n (p .range) in (
-        record {
-          positive = positive;
-          board = both .0;
-          some = r .some;
-          few = r .few;
-          outside = outside-commits i (touched s a n) (on .commit) (p .free) (all-reading (touched s a n));
-        },
-        touched-below s a n positive r,
-        r,
-      )
-
-  -- a read done: the bytes of the writes that it is noted with
-  read-bytes : (n : Note) (a k : ℕ) → a + k ≤ cells s
-      → span (m Current) a k ≡ bytes-from (n ∷ w .ledger .notes) a (span (source (w .ledger .notes)) a k)
-  unfolding span bytes-from
-  read-bytes n a zero e = refl
-  read-bytes n a (suc k) e =
-      ap₂ _∷_
-      (on .current a (omega arith) ∙ sym (live-byte (w .ledger .notes) a) ∙ sym (byte-older n (w .ledger .notes) a a))
-      (read-bytes n (suc a) k (omega arith))
-
-  read-ends : (i a n room k : ℕ) → Result s (w .image) (w .state) (Read i a n room) k
-      → Answers s w (Read i a n room) k × Invariant s (next s w (Read i a n room) k)
-  unfolding answer record-refused plan next update effect noted newest sources-of after waits
-  read-ends i a n room k (turned-away v p r u e) =
-      (λ d. not-done v d, refused-on s w (Read i a n room) k (up h q on) v p r)
-  read-ends i a n room k (stopped e f) = absurd (not-suc-le-zero (f .short))
-  read-ends i a n room k (finished e l f) =
-      let ok = read-ok i a n room e in
-      let r = ok .2 in (
-        λ d. f .bytes ∙ rw d (read-bytes _ a n (r .within)),
-        finished-on s w (Read i a n room) k f q (read-done on (bound .most-boards) (ok .0) (ok .1)),
-      )
-
-  read-step : (i a n room k : ℕ) → Answers s w (Read i a n room) k × Invariant s (next s w (Read i a n room) k)
-  unfolding plan
-  read-step i a n room k = read-ends i a n room k (result h (w .state) (Read i a n room) k (λ e. none))
-
-  -- ---- a write
-
-  write-ok : (i a : ℕ) (bytes : List ℕ) → first (refusals (w .image) s m (w .state) (Write i a bytes)) ≡ 0
-      → Access-ok s (write-binding s a (length bytes)) i a (length bytes) (w .ledger) × Ranged s a (length bytes)
-  unfolding refusals engaged
-  write-ok i a bytes e =
-      let n = length bytes in
-      let both = begun i (write-tests s m (w .state) i a n) e in
-      let p = write-passed s m (w .state) i a n (both .1) in
-      let r = ranged s a n (p .range) in
-      let tags = tags-written on (touched-below s a n positive r) in (
-        record {
-          positive = positive;
-          board = both .0;
-          some = r .some;
-          few = r .few;
-          outside =
-              outside-commits i (touched s a n) (on .commit) (p .free)
-              (untied s (engaged (w .state)) a n (m Tags) (writer s (w .ledger .notes)) (touched s a n) tags
-              (p .untied));
-        },
-        r,
-      )
-
-  write-ends : (i a : ℕ) (bytes : List ℕ) (k : ℕ) → Result s (w .image) (w .state) (Write i a bytes) k
-      → Invariant s (next s w (Write i a bytes) k)
-  unfolding answer record-refused plan commit-effect effect waits
-  write-ends i a bytes k (turned-away v p r u e) = refused-on s w (Write i a bytes) k (up h q on) v p r
-  write-ends i a bytes k (stopped e f) =
-      let ok = write-ok i a bytes e in
-      let calm = write-through i a bytes positive (ok .0 .few) (ok .0 .board) (on-idle positive on) .prefix k in
-      stopped-off s w (Write i a bytes) k f
-      (rw (f .memory) (off-undone (on .consistent) (idle calm) (agrees-none (on .commit)) (on .lengths)))
-  write-ends i a bytes k (finished e l f) =
-      let ok = write-ok i a bytes e in
-      finished-on s w (Write i a bytes) k f q
-      (write-done on (bound .most-boards) bytes (ok .0) (touched-below s a (length bytes) positive (ok .1)))
-
-  write-step : (i a : ℕ) (bytes : List ℕ) (k : ℕ) → Invariant s (next s w (Write i a bytes) k)
-  unfolding plan
-  write-step i a bytes k =
-      write-ends i a bytes k
-      (result h (w .state) (Write i a bytes) k
-      (λ e. inside-valid (write-inside s m i a bytes positive (write-ok i a bytes e .1))))
-
-  -- ---- a fault
-
-  abbrev fault-set : ℕ → ℕ
-  fault-set i = fault-group (depends (w .state)) i
-
-  fault-same : (i : ℕ) → fault-set i ≡ fault-group (w .ledger .links) i
-  fault-same i = ap (λ d. fault-group d i) (on .links)
-
-  fault-back : (i : ℕ) → Backward (has (fault-set i)) (w .ledger .links)
-  fault-back i =
-      subst (λ g. Backward (has g) (w .ledger .links)) (sym (fault-same i))
-      (fault-group-backward (bounded-more (on .consistent .bounded) (bound .most-boards)) i)
-
-  fault-ends : (i k : ℕ) → Result s (w .image) (w .state) (Fault i) k
-      → Answers s w (Fault i) k × Invariant s (next s w (Fault i) k)
-  unfolding answer record-refused plan commit-effect effect waits tagged-in
-  fault-ends i k (turned-away v p r u e) = (λ d. not-done v d, refused-on s w (Fault i) k (up h q on) v p r)
-  fault-ends i k (stopped e f) =
-      let calm = rollback-through positive (tagged-in (fault-set i)) refl (on-idle positive on) .prefix k in (
-        λ d. cut-not-done (f .ended) d,
-        stopped-off s w (Fault i) k f
-            (rw (f .memory) (off-undone (on .consistent) (idle calm) (agrees-none (on .commit)) (on .lengths))),
-      )
-  fault-ends i k (finished e l f) = (
-    λ d. f .group ∙ fault-same i,
-    finished-on s w (Fault i) k f q
-        (subst (λ g. On s (after (blocks-copied s m Recovery Current (tagged-in (fault-set i))) m)
-        (clear (w .state) (fault-set i)) (cleared (has g) undone (w .ledger)))
-        (fault-same i) (fault-done on (bound .most-boards) positive (fault-set i) (fault-back i))),
-  )
-
-  fault-step : (i k : ℕ) → Answers s w (Fault i) k × Invariant s (next s w (Fault i) k)
-  unfolding plan
-  fault-step i k =
-      fault-ends i k (result h (w .state) (Fault i) k
-      (λ e. inside-valid (blocks-inside s m Recovery Current (tagged-in (fault-set i)) current)))
-
-  -- ---- starts and acknowledgements
-
-  acknowledge-ok : (i : ℕ) (context : List ℕ)
-      → first (refusals (w .image) s m (w .state) (Acknowledge i context)) ≡ 0
-      → (i < s .boards) × (length context ≡ s .context) × (has (w .state .commit .members) i ≡ true)
-  unfolding refusals engaged
-  acknowledge-ok i context e =
-      let both = begun i (acknowledge-tests s (w .state) i (length context)) e in
-      let p = acknowledge-passed s (w .state) i (length context) (both .1) in
-      (both .0, p .full, p .member)
-
-  start-ok : (i : ℕ) (context : List ℕ) → first (refusals (w .image) s m (w .state) (Start i context)) ≡ 0
-      → (i < s .boards) × (length context ≡ s .context) × (w .state .commit .members ≡ 0)
-  unfolding refusals engaged
-  start-ok i context e =
-      let both = begun i (start-tests s (w .state) (length context)) e in
-      let p = start-passed s (w .state) (length context) (both .1) in
-      (both .0, p .full, p .none-open)
-
-  acknowledge-ends : (i : ℕ) (context : List ℕ) (k : ℕ) → Result s (w .image) (w .state) (Acknowledge i context) k
-      → Answers s w (Acknowledge i context) k × Invariant s (next s w (Acknowledge i context) k)
-  unfolding answer record-refused plan commit-effect effect waits decides-now
-  acknowledge-ends i context k (turned-away v p r u e) = (
-    record { members = λ d. not-done v d; decided = rw v u },
-    refused-on s w (Acknowledge i context) k
-        (up h q on) v p r,
-  )
-  acknowledge-ends i context k (stopped e f) =
-      let ok = acknowledge-ok i context e in
-      let end = cut-agrees on (bound .most-boards) positive (ok .0) (ok .2) context (ok .1) k _ f in
-      (end .1, stopped-off s w (Acknowledge i context) k f (end .0))
-  acknowledge-ends i context k (finished e l f) =
-      let ok = acknowledge-ok i context e in
-      let end = done-agrees on (bound .most-boards) positive (ok .0) (ok .2) context (ok .1) k _ l f in
-      (end .1, ended-on s w (Acknowledge i context) k f q (end .0))
-
-  acknowledge-step : (i : ℕ) (context : List ℕ) (k : ℕ)
-      → Answers s w (Acknowledge i context) k × Invariant s (next s w (Acknowledge i context) k)
-  unfolding plan
-  acknowledge-step i context k =
-      acknowledge-ends i context k
-      (result h (w .state) (Acknowledge i context) k (λ e.
-      let ok = acknowledge-ok i context e in
-      stores-valid on (bound .most-boards) positive (ok .0) (ok .2) context (ok .1)))
-
-  -- a start acknowledges the commit that it has opened
-  abbrev start-state : ℕ → Record
-  start-state i = opened (w .state) i (commit-group (depends (w .state)) i)
-
-  start-on : (i : ℕ) → i < s .boards → w .state .commit .members ≡ 0 → On s m (start-state i) (started i (w .ledger))
-  start-on i l e = opened-on (bound .most-boards) on e i l
-
-  start-member : (i : ℕ) → i < s .boards → has (start-state i .commit .members) i ≡ true
-  unfolding opened
-  start-member i l = commit-group-self (depends (w .state)) i (let most = bound .most-boards in omega arith)
-
-  start-ends : (i : ℕ) (context : List ℕ) (k : ℕ) → Result s (w .image) (w .state) (Start i context) k
-      → Answers s w (Start i context) k × Invariant s (next s w (Start i context) k)
-  unfolding answer record-refused plan commit-effect effect waits decides-now
-  start-ends i context k (turned-away v p r u e) =
-      (record { members = λ d. not-done v d; decided = rw v u }, refused-on s w (Start i context) k (up h q on) v p r)
-  start-ends i context k (stopped e f) =
-      let ok = start-ok i context e in
-      let end = cut-agrees (start-on i (ok .0) (ok .2)) (bound .most-boards) positive (ok .0)
-      (start-member i (ok .0)) context (ok .1) k _ f in
-      (end .1, stopped-off s w (Start i context) k f (end .0))
-  start-ends i context k (finished e l f) =
-      let ok = start-ok i context e in
-      let end = done-agrees (start-on i (ok .0) (ok .2)) (bound .most-boards) positive (ok .0)
-      (start-member i (ok .0)) context (ok .1) k _ l f in
-      (end .1, ended-on s w (Start i context) k f q (end .0))
-
-  start-step : (i : ℕ) (context : List ℕ) (k : ℕ)
-      → Answers s w (Start i context) k × Invariant s (next s w (Start i context) k)
-  unfolding plan
-  start-step i context k =
-      start-ends i context k
-      (result h (w .state) (Start i context) k (λ e.
-      let ok = start-ok i context e in
-      stores-valid (start-on i (ok .0) (ok .2)) (bound .most-boards) positive (ok .0) (start-member i (ok .0)) context
-      (ok .1)))
-
--- ---- power-up, from a record on or off
-
-module _ {s : Shape} {image : List ℕ} {cell : ℕ → ℕ} {context : ℕ → List ℕ} (h : Sound s image) where
-  -- no power-up is refused on a safe memory
-  order-safe : Safe s cell context (view s image) → in-order 1 image ≡ true
-  order-safe (idle c) = in-order-sound s image h 1 ∙ rw (sym (view-decision h) ∙ c .undecided)
-  order-safe (deciding c) = in-order-sound s image h 1 ∙ rw (sym (view-decision h) ∙ c .decided)
-
-  tags-safe : Safe s cell context (view s image) → bad-tags s (view s image) ≡ false
-  unfolding bad-tags
-  tags-safe (idle c) = none-any (s .blocks) _ (λ b l. le-ltb (s .boards) (view s image Tags b) (c .tags b l))
-  tags-safe (deciding c) = none-any (s .blocks) _ (λ b l. le-ltb (s .boards) (view s image Tags b) (c .tags b l))
-
-  decision-safe : Safe s cell context (view s image) → bad-decision s (view s image) ≡ false
-  unfolding bad-decision
-  decision-safe (idle c) = rw (c .undecided)
-  decision-safe (deciding {g} c) = rw (c .decided, c .group, ne-eqb g 0 (c .some), c .below)
-
-  power-taken : (r : Record) → Safe s cell context (view s image)
-      → first (refusals image s (view s image) r Power-up) ≡ 0
-  unfolding refusals power-tests first
-  power-taken r safe = rw (order-safe safe, tags-safe safe, decision-safe safe)
-
-module _ {s : Shape} (w : System) (h : Sound s (w .image)) (c : Consistent s (w .ledger))
-    (safe : Safe s (kept-cell (w .ledger)) (w .ledger .kept) (view s (w .image)))
-    (dropped : select (λ o. not (meets (o .members) (λ i. true))) (w .ledger .commits) ≡ [])
-    (lengths : (i : ℕ) → (length (w .ledger .given i) ≡ s .context) × (length (w .ledger .kept i) ≡ s .context))
-  where
-    positive-size : 0 < s .size
-    positive-size = limits s (h .allowed-shape) .some-size
-
-    power-ends : (k : ℕ) → Result s (w .image) (w .state) Power-up k
-        → Answers s w Power-up k × Invariant s (next s w Power-up k)
-    unfolding answer plan commit-effect effect waits
-    power-ends k (turned-away v p r u e) = absurd (e (power-taken h (w .state) safe))
-    power-ends k (stopped e f) = (
-      λ v. not-cut v (f .ended),
-      stopped-off s w Power-up k f
-          (rw (f .memory) (off-undone c (recovering-safe positive-size safe .0 .prefix k) dropped lengths)),
-    )
-    power-ends k (finished e l f) = (
-      λ v. not-done v (f .ended),
-      finished-on s w Power-up k f refl (powered positive-size c
-          (recovering-safe positive-size safe .1) dropped lengths),
-    )
-
-    power-step : (k : ℕ) → Answers s w Power-up k × Invariant s (next s w Power-up k)
-    unfolding plan
-    power-step k = power-ends k (result h (w .state) Power-up k (λ e. recovering-valid s (view s (w .image))))
-
--- ---- a record that is off refuses every call but power-up
-
-module _ {s : Shape} (w : System) (h : Sound s (w .image)) (q : w .waiting ≡ true) (o : w .state .on ≡ false)
-    (c : Off s (view s (w .image)) (w .ledger))
-  where
-    off-refuses : (i : ℕ) (ts : List Test) → first (entry-tests (w .image) (w .state) i ++ ts) ≢ 0
-    unfolding bad-record
-    off-refuses i ts z =
-        true≢false (rw o at (entered (w .image) (w .state) i (h .shape)
-        (entry-first (w .image) (w .state) i ts z .0) .recorded))
-
-    record Refused (request : Request) (k : ℕ) : Type 0 where
-      told-so : verdict (answer w request k) ≡ refused
-      not-decided : answer w request k .reply .answer .decided ≡ false
-      same : Invariant s (next s w request k)
-
-    off-refused : (request : Request) (k : ℕ)
-        → first (refusals (w .image) s (view s (w .image)) (w .state) request) ≢ 0
-        → record-refused (w .state) request ≡ w .state → Refused request k
-    unfolding answer
-    off-refused request k n r = go (result h (w .state) request k (λ e. absurd (n e)))
-      where
-        go : Result s (w .image) (w .state) request k → Refused request k
-        go (turned-away v p x u e) =
-            record { told-so = v; not-decided = u; same = refused-on s w request k (down h q o c) v p (x ∙ r) }
-        go (stopped e f) = absurd (n e)
-        go (finished e l f) = absurd (n e)
-
-    off-commits : (i : ℕ) (context : List ℕ) (l : Ledger) (request : Request) (k : ℕ) → Refused request k
-        → Commits s i context k l (answer w request k)
-    unfolding decides-now
-    off-commits i context l request k z =
-        record { members = λ d. not-done (z .told-so) d; decided = rw (z .told-so) (z .not-decided) }
-
-    off-step : (request : Request) (k : ℕ) → Answers s w request k × Invariant s (next s w request k)
-    unfolding refusals record-refused select
-    off-step (Read i a n room) k =
-        let z = off-refused (Read i a n room) k (off-refuses i _) refl in
-        (λ d. not-done (z .told-so) d, z .same)
-    off-step (Write i a bytes) k = (tt, off-refused (Write i a bytes) k (off-refuses i _) refl .same)
-    off-step (Start i context) k =
-        let z = off-refused (Start i context) k (off-refuses i _) refl in
-        (off-commits i context (started i (w .ledger)) (Start i context) k z, z .same)
-    off-step (Acknowledge i context) k =
-        let z = off-refused (Acknowledge i context) k (off-refuses i _) refl in
-        (off-commits i context (w .ledger) (Acknowledge i context) k z, z .same)
-    off-step (Fault i) k =
-        let z = off-refused (Fault i) k (λ e. off-refuses i [] (rw append-nil e)) refl in
-        (λ d. not-done (z .told-so) d, z .same)
-    off-step Power-up k =
-        power-step w h (c .consistent) (c .safe) (ap (select (λ o. not (meets (o .members) (λ i. true)))) (c .none-open))
-        (c .lengths) k
-
--- ---- every call, and every list
-
-step : {s : Shape} (w : System) → Invariant s w → (request : Request) (k : ℕ)
-    → Answers s w request k × Invariant s (next s w request k)
-step w (up h q on) (Read i a n room) k = read-step h q on i a n room k
-step w (up h q on) (Write i a bytes) k = (tt, write-step h q on i a bytes k)
-step w (up h q on) (Start i context) k = start-step h q on i context k
-step w (up h q on) (Acknowledge i context) k = acknowledge-step h q on i context k
-step w (up h q on) (Fault i) k = fault-step h q on i k
-step {s} w (up h q on) Power-up k =
-    power-step w h (on .consistent) (idle (on-idle (limits s (h .allowed-shape) .some-size) on))
-    (agrees-none (on .commit)) (on .lengths) k
-step w (down h q o c) request k = off-step w h q o c request k
-
-faithful : {s : Shape} (w : System) (calls : List Call) → Invariant s w → Faithful s w calls
-faithful w [] i = end (holds i)
-faithful {s} w (c ∷ cs) i =
+faithful : {s : Shape} (w : System) (calls : List Call) → Invariant s w → Ready s w → Faithful s w calls
+faithful w [] i r = end (holds i r)
+faithful {s} w (c ∷ cs) i r =
     let both = step w i (c .request) (c .k) in
-    and-then (holds i) (both .0) (faithful (next s w (c .request) (c .k)) cs (both .1))
+    and-then (holds i r) (both .0)
+    (faithful (next s w (c .request) (c .k)) cs (both .1) (next-ready i r (c .request) (c .k) (both .0)))
 
 -- ---- the beginning
 
@@ -554,8 +141,16 @@ formatted-on s image r k v =
       given = λ i x l d e. clash e (has-zero i);
     }))
 
+formatted-ready : (s : Shape) (image : List ℕ) (r : Record) (k : ℕ) → verdict (format s image r k) ≡ done
+    → Ready s (formatted s image r k)
+unfolding formatted fresh closed
+formatted-ready s image r k v =
+    let f = Format.formatted s image r k (format-status (format s image r k) v) in
+    rw (f .2) (record { small = pow-pos 16; state = λ q. orderly-record (fresh-order (s .boards)) })
+
 pub demand-3 : Demand-3
-demand-3 s image r k v calls = faithful (formatted s image r k) calls (formatted-on s image r k v)
+demand-3 s image r k v calls =
+    faithful (formatted s image r k) calls (formatted-on s image r k v) (formatted-ready s image r k v)
 
 -- a finished format is to be had for every allowed shape
 pub format-done : Format-done

@@ -2,6 +2,7 @@ pub mod Refusals
 pub mod Marks
 pub mod Soundness
 pub mod Accesses
+pub mod Dependences
 pub mod Consistent
 pub mod Memory
 pub mod Bridge
@@ -11,8 +12,12 @@ pub mod Counts
 pub mod Safety
 pub mod Outcomes
 pub mod Plans
+pub mod Demand1
 pub mod Agreement
 pub mod Steps
 pub mod Commits
 pub mod Acknowledging
+pub mod Invariant
+pub mod Order
 pub mod Demand3
+pub mod Transactions

@@ -11,7 +11,7 @@ use native.Mathlib.Omega.{arith}
 use borrow.Author.Tests.{eq-eqb, ne-eqb}
 use Rattle.boards.specs.Boards.{Links, Chain, unlink}
 use Rattle.protocol.specs.Ledger.{Fate, pending, kept, undone, Note, is-pending, not-undone, covers, byte-in}
-use Rattle.protocol.specs.Ledger.{wrote-in, writer, source, byte-from, fate-of, settled}
+use Rattle.protocol.specs.Ledger.{wrote-in, writer, source, byte-from, note-is, settled}
 use Rattle.protocol.specs.declared.Shape.{Shape}
 use Rattle.boards.proofs.Basics.{decide, clash, refute}
 use Rattle.boards.proofs.Groups.{Forward, Backward, forward-chain, backward-chain, chain-outside-forward}
@@ -323,12 +323,12 @@ pub at-map : (f : Note → Note) {ns : List Note} {k : ℕ} {n : Note} → At ns
 at-map f (newest {n = n} {ns = ns}) = subst (λ k. At (f n ∷ map f ns) k (f n)) (length-map ns f) newest
 at-map f (older h) = older (at-map f h)
 
-pub at-fate : {ns : List Note} {k : ℕ} {n : Note} → At ns k n → fate-of ns k ≡ n .fate
-unfolding fate-of
-at-fate (newest {ns = ns}) = rw (eq-eqb (length ns) (length ns) refl)
-at-fate {k = k} (older {ns = ns} h) =
+pub at-is : (p : Note → Bool) {ns : List Note} {k : ℕ} {n : Note} → At ns k n → note-is p ns k ≡ p n
+unfolding note-is
+at-is p (newest {ns = ns}) = rw (eq-eqb (length ns) (length ns) refl)
+at-is p {k = k} (older {ns = ns} h) =
     let l = at-below h in
-    rw (ne-eqb k (length ns) (λ e. omega arith)) (at-fate h)
+    rw (ne-eqb k (length ns) (λ e. omega arith)) (at-is p h)
 
 -- ---- the last write not undone
 

@@ -2,7 +2,7 @@
 use Prim.Native.Nat.{ℕ, suc, _+_, _-_, _*_, _/_, _%_, _≤_, _<_}
 use native.Mathlib.Nat.{mul-le-mul-right, suc-mul}
 use mathlib.Core.Path.{_≡_, refl, sym, _∙_, ap}
-use mathlib.Core.Bool.{Bool, true, false, _||_, not}
+use mathlib.Core.Bool.{Bool, true, false, _||_, not, or-assoc}
 use mathlib.Core.List.{List, [], _∷_, _++_, map, append-nil}
 use mathlib.Core.Logic.{⊎-elim, _≢_}
 use lib.Dec.{eqb, ltb}
@@ -12,14 +12,19 @@ use borrow.Author.Tests.{eqb-false, ne-eqb, ltb-false}
 use Rattle.boards.specs.Lists.{anyOf}
 use Rattle.boards.specs.Boards.{tagged-in, tagged}
 use Rattle.protocol.specs.Image.{Decision, Group, Tags, Current, Recovery, Tentative, Memory, Put, put, rank}
-use Rattle.protocol.specs.Image.{size, after, cells, raw}
+use Rattle.protocol.specs.Image.{size, after, cells, raw, shape-of, view}
 use Rattle.protocol.specs.Accesses.{touched}
 use Rattle.protocol.specs.Calls.{bad-range, stored-group, placing, tagging, completing, deciding, completed-first}
-use Rattle.protocol.specs.Calls.{recovering, decides}
+use Rattle.protocol.specs.Calls.{recovering, decides, acknowledging, plan, Test, first, entry-tests, refusals}
+use Rattle.protocol.specs.Calls.{Request, Read, Write, Start, Acknowledge, Fault, Power-up, refusal-at}
 use Rattle.protocol.specs.declared.Shape.{Shape}
 use Rattle.boards.proofs.Basics.{or-false, All, none, also, all-append, all-cond, all-map, anyOf-false, or-right}
 use Rattle.boards.proofs.Basics.{all-take, take-append, take-map}
-use Rattle.protocol.proofs.Bridge.{Valid}
+use Rattle.volatile.specs.Volatile.{commit-of, acknowledge}
+use Rattle.volatile.specs.declared.Record.{Record}
+use Rattle.protocol.proofs.Refusals.{Entered, entered, entry-first, write-passed, start-passed}
+use Rattle.protocol.proofs.Refusals.{acknowledge-passed, power-passed}
+use Rattle.protocol.proofs.Bridge.{Valid, Sound, limits, order-sound}
 use Rattle.protocol.proofs.Copies.{Inside, placing-inside, blocks-inside, contexts-inside, current, recovery}
 use Rattle.protocol.proofs.Safety.{block-below, announced, announced-length, announced-areas, stores-parts}
 use Rattle.protocol.proofs.Safety.{deciding-stores, decision}
@@ -114,16 +119,64 @@ recovering-valid s m =
     (all-cond (eqb (m Decision 0) 1) (λ e. completing-valid s m (stored-group m)) (λ e. none))
     (inside-valid (blocks-inside s (after (completed-first s m) m) Recovery Current tagged current))
 
+-- a context given, and with it perhaps the decision
+pub acknowledging-valid : (s : Shape) (m : Memory) (r : Record) (i : ℕ) (context : List ℕ) → i < s .boards
+    → length context ≡ s .context → All (Valid s) (acknowledging s m r i context .stores)
+unfolding acknowledging
+acknowledging-valid s m r i context l full =
+    let c = commit-of (acknowledge r i) i in
+    let given = placing Tentative (i * s .context) context in
+    all-append (inside-valid (given-inside s i context l full))
+    (all-cond (eqb (c .acknowledged) (c .members)) (λ e. deciding-valid s (after given m) (c .members)) (λ e. none))
+
+-- the puts of every call that is not refused, and its image
+module _ (image : List ℕ) (r : Record) where
+  abbrev shape : Shape
+  shape = shape-of image
+
+  abbrev memory : Memory
+  memory = view shape image
+
+  -- what the first tests of a board's call give
+  pub begun : (i : ℕ) (ts : List Test) → first (entry-tests image r i ++ ts) ≡ 0
+      → Entered shape image r i × Sound shape image × (first ts ≡ 0)
+  begun i ts e =
+      let both = entry-first image r i ts e in
+      let h = entered image r i refl (both .0) in
+      (h, order-sound (h .ordered) .0, both .1)
+
+  pub plan-valid : (request : Request) → refusal-at image r request ≡ 0
+      → Sound shape image × All (Valid shape) (plan shape memory r request .stores)
+  unfolding refusals plan rank size
+  plan-valid (Read i a n room) e = (begun i _ e .1, none)
+  plan-valid (Write i a bytes) e =
+      let b = begun i _ e in
+      let n = length bytes in
+      let r = ranged shape a n (write-passed shape memory r i a n (b .2) .range) in
+      let blocks = touched-below shape a n (limits shape (b .1 .allowed-shape) .some-size) r in
+      let tags = inside-valid (tagging-inside shape memory i (touched shape a n) blocks) in
+      let cells = inside-valid (placing-inside shape Current a bytes (omega arith) (r .within)) in
+      -- in whichever order they are made
+      (b .1, search all-append)
+  plan-valid (Start i context) e =
+      let b = begun i _ e in
+      let full = start-passed shape r (length context) (b .2) .full in
+      (b .1, acknowledging-valid shape memory _ i context (b .0 .board) full)
+  plan-valid (Acknowledge i context) e =
+      let b = begun i _ e in
+      let full = acknowledge-passed shape r i (length context) (b .2) .full in
+      (b .1, acknowledging-valid shape memory r i context (b .0 .board) full)
+  plan-valid (Fault i) e =
+      (begun i [] (rw append-nil e) .1, inside-valid (blocks-inside shape memory Recovery Current _ current))
+  plan-valid Power-up e =
+      (order-sound (power-passed image shape memory e .ordered) .0, recovering-valid shape memory)
+
 -- ---- which put decides
 
 anyOf-append : {X : Type 0} (t : X → Bool) (xs ys : List X) → anyOf t (xs ++ ys) ≡ anyOf t xs || anyOf t ys
 unfolding anyOf
 anyOf-append t [] ys = refl
 anyOf-append t (x ∷ xs) ys = ap (λ b. t x || b) (anyOf-append t xs ys) ∙ sym (or-assoc (t x) (anyOf t xs) (anyOf t ys))
-  where
-    or-assoc : (a b c : Bool) → (a || b) || c ≡ a || (b || c)
-    or-assoc true b c = refl
-    or-assoc false b c = refl
 
 -- a put outside the decision byte does not
 pub indecisive : {ps : List Put} → All (λ p. rank (p .area) ≢ 1) ps → anyOf decisive ps ≡ false

@@ -1,18 +1,18 @@
 -- Tests in their order: lists of them one after the other, what a call that is not refused has passed, and what
 -- of an image the tests look at.
-use Prim.Native.Nat.{ℕ, _+_, _/_, _-_, _≤_, _<_}
-use mathlib.Core.Path.{_≡_, refl, sym, _∙_, ap, ap₂, subst, fun-ext}
-use mathlib.Core.Bool.{Bool, true, false, _||_, not, cond}
-use mathlib.Core.List.{List, [], _∷_, _++_, map}
+use Prim.Native.Nat.{ℕ, _+_, _-_, _≤_, _<_}
+use mathlib.Core.Path.{_≡_, refl, sym, _∙_, ap, subst, fun-ext}
+use mathlib.Core.Bool.{Bool, true, false, not, cond}
+use mathlib.Core.List.{List, [], _∷_, _++_}
 use mathlib.Core.Logic.{⊎-elim, _≢_}
-use lib.Dec.{eqb, ltb, leb}
+use lib.Dec.{eqb, ltb}
 use lib.ListN.{length}
 use native.Mathlib.Omega.{arith}
 use borrow.Author.Tests.{eqb-true, eqb-false, leb-false, ltb-false, ltb-true}
-use Rattle.boards.specs.Lists.{every, any, anyOf}
-use Rattle.boards.specs.Boards.{has, beyond, tagged-in}
+use Rattle.boards.specs.Lists.{every, anyOf}
+use Rattle.boards.specs.Boards.{has, tagged-in}
 use Rattle.boards.proofs.Basics.{decide, or-false, not-false, All, none, also}
-use Rattle.protocol.specs.Image.{Memory, Area, Decision, Group, Tags, byte, mark, cells, allowed, total, in-order}
+use Rattle.protocol.specs.Image.{Memory, Decision, Tags, byte, in-order}
 use Rattle.protocol.specs.Image.{shape-of, view, base, size}
 use Rattle.volatile.specs.Volatile.{engaged, commit-of, bad-record}
 use Rattle.protocol.specs.Calls.{Request, Read, Write, Start, Acknowledge, Fault, Power-up, Test, test, first}

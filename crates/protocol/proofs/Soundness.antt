@@ -1,7 +1,7 @@
 -- The ledger by itself: what its notes, links and open commits keep through every call.
 use Prim.Native.Nat.{ℕ}
 use mathlib.Core.Path.{_≡_, refl, _∙_, ap}
-use mathlib.Core.Bool.{Bool, true, false}
+use mathlib.Core.Bool.{Bool, true, false, not}
 use mathlib.Core.List.{List, _∷_, map}
 use mathlib.Core.Option.{Option, none, some}
 use mathlib.Core.Logic.{_⊎_, inl, inr, ⊎-elim}
@@ -11,7 +11,7 @@ use Rattle.protocol.specs.Ledger.{from-undone, reads-undone, settled}
 use Rattle.boards.proofs.Basics.{decide, clash, refute, and-false, All, none, all-map, anyOf-false}
 use Rattle.boards.proofs.Groups.{Forward, Backward, forward-chain, backward-chain, chain-outside-forward}
 use Rattle.boards.proofs.Groups.{chain-outside-backward, chain-more}
-use Rattle.protocol.proofs.Marks.{At, older, at-map, at-fate, fates}
+use Rattle.protocol.proofs.Marks.{At, older, at-map, at-is, fates}
 
 -- ---- reads
 
@@ -41,8 +41,8 @@ module _ {d e : Links} (wider : (a b : ℕ) → d a b ≡ true → e a b ≡ tru
 clean : {d : Links} {all : List Note} {n : Note} (o : Option ℕ) → Backed d all n o → from-undone all o ≡ false
 unfolding from-undone not-undone
 clean o by-none = refl
-clean o (by-kept h e) = rw (at-fate h ∙ e)
-clean o (by-pending h e g c) = rw (at-fate h ∙ e)
+clean o (by-kept h e) = rw (at-is (λ n. not-undone (n .fate)) h) (ap (λ f. not (not-undone f)) e)
+clean o (by-pending h e g c) = rw (at-is (λ n. not-undone (n .fate)) h) (ap (λ f. not (not-undone f)) e)
 
 pub untainted : {d : Links} {all : List Note} (n : Note) → Good d all n → reads-undone all n ≡ false
 unfolding reads-undone not-undone

@@ -1,20 +1,24 @@
 -- Demand 3 as a statement: what holds of every list of calls, on the definitions that the promises cite.
 use Prim.Native.Nat.{ℕ, suc, _+_, _<_, _≤_}
 use mathlib.Core.Path.{_≡_}
-use mathlib.Core.Bool.{Bool, true, false, cond}
+use mathlib.Core.Bool.{Bool, true, false, _&&_, not, cond}
 use mathlib.Core.List.{List, [], _∷_}
 use mathlib.Core.Option.{Option}
 use mathlib.Core.Logic.{_≢_}
 use lib.ListN.{length}
 use lib.Dec.{eqb}
 use Rattle.boards.specs.Lists.{anyOf}
-use Rattle.boards.specs.Boards.{fault-group}
+use Rattle.boards.specs.Boards.{fault-group, Chain, Exactly}
 use Rattle.protocol.specs.Image.{cells, byte, base, Area, allowed, total}
 use Rattle.protocol.specs.Calls.{Request, Read, Write, Start, Acknowledge, Fault, Power-up, Outcome, perform}
 use Rattle.protocol.specs.Calls.{format, context-status, context-part}
 use Rattle.protocol.specs.Ledger.{Verdict, refused, done, cut, Note, Ledger, blank, source, byte-from, sources-of}
-use Rattle.protocol.specs.Ledger.{reads-undone, members-of, started, decides-now, update}
+use Rattle.protocol.specs.Ledger.{Fate, is-pending, not-undone, note-is, from-undone, reads-undone}
+use Rattle.protocol.specs.Ledger.{members-of, started}
+use Rattle.protocol.specs.Ledger.{decides-now, update}
+use Rattle.protocol.specs.Dependences.{last-by, depends-by-notes}
 use Rattle.protocol.specs.declared.Shape.{Shape}
+use Rattle.volatile.specs.Volatile.{depends}
 use Rattle.volatile.specs.declared.Record.{Record}
 
 -- refused, done or cut, read off the status
@@ -76,6 +80,16 @@ pub record Holds (s : Shape) (w : System) : Type 0 where
       → (context-status (w .image) i ≡ 0) × (context-part (w .image) i ≡ w .ledger .kept i)
   -- no read pending or kept is noted with an undone write
   pub reads : anyOf (reads-undone (w .ledger .notes)) (w .ledger .notes) ≡ false
+  -- the links are those that the notes alone tell
+  pub links : (i j : ℕ) → w .ledger .links i j ≡ depends-by-notes s (w .ledger .notes) i j
+  -- and so are the record's rows and the tags
+  pub rows : w .waiting ≡ false → (i j : ℕ) → depends (w .state) i j ≡ depends-by-notes s (w .ledger .notes) i j
+  pub tags : w .waiting ≡ false → (b j : ℕ) → b < s .blocks
+      → eqb (byte (w .image) (base s Area.Tags + b)) (suc j) ≡ last-by s (w .ledger .notes) j b
+  -- the record is off exactly while a cut waits; else no request whatever would be answered 11 or 12
+  pub powered : w .state .on ≡ not (w .waiting)
+  pub ready : w .waiting ≡ false → (request : Request) (k : ℕ)
+      → (answer w request k .reply .answer .status ≢ 11) × (answer w request k .reply .answer .status ≢ 12)
 
 -- ---- what holds of each answer
 
@@ -88,7 +102,7 @@ unfoldable pub newest : List Note → List (Option ℕ)
 newest [] = []
 newest (n ∷ ns) = sources-of (n .access)
 
--- the members and whether the call decided are those of the ledger, given the commit before board i acknowledges
+-- members and decision are those of the ledger l, in which the commit is open and board i has still to acknowledge
 pub record Commits (s : Shape) (i : ℕ) (context : List ℕ) (k : ℕ) (l : Ledger) (o : Outcome) : Type 0 where
   pub members : verdict o ≡ done → o .reply .answer .group ≡ members-of i (l .commits)
   pub decided : o .reply .answer .decided ≡ decides-now s i context k l (verdict o)
@@ -99,11 +113,15 @@ Answers s w (Read i a n room) k =
     → answer w (Read i a n room) k .bytes
     ≡ bytes-from (next s w (Read i a n room) k .ledger .notes) a (newest (next s w (Read i a n room) k .ledger .notes))
 Answers s w (Write i a bytes) k = Unit {0}
-Answers s w (Start i context) k = Commits s i context k (started i (w .ledger)) (answer w (Start i context) k)
+Answers s w (Start i context) k =
+    Commits s i context k (started i (w .ledger)) (answer w (Start i context) k)
+    × (verdict (answer w (Start i context) k) ≡ done
+    → Exactly (answer w (Start i context) k .reply .answer .group) (λ j. Chain (w .ledger .links) i j))
 Answers s w (Acknowledge i context) k = Commits s i context k (w .ledger) (answer w (Acknowledge i context) k)
 Answers s w (Fault i) k =
     verdict (answer w (Fault i) k) ≡ done
-    → answer w (Fault i) k .reply .answer .group ≡ fault-group (w .ledger .links) i
+    → (answer w (Fault i) k .reply .answer .group ≡ fault-group (w .ledger .links) i)
+    × Exactly (answer w (Fault i) k .reply .answer .group) (λ j. Chain (w .ledger .links) j i)
 Answers s w Power-up k = verdict (answer w Power-up k) ≢ refused
 
 -- The whole list: at each point what holds there, and of each call its answer.
@@ -125,3 +143,37 @@ abbrev pub Format-done : Type 0
 Format-done =
     (s : Shape) (image : List ℕ) (r : Record) (k : ℕ) → allowed s ≡ true → length image ≡ total s → total s + 1 ≤ k
     → verdict (format s image r k) ≡ done
+
+-- ---- transactions
+
+-- the system after more calls
+unfoldable pub later : Shape → System → List Call → System
+later s w [] = w
+later s w (c ∷ cs) = later s (next s w (c .request) (c .k)) cs
+
+-- Document 01's transaction of board i at a point: its pending notes, which are those since it was last cleared, for a
+-- clearing leaves none of them pending.
+unfoldable pub transaction : List Note → ℕ → ℕ → Bool
+transaction notes i k = note-is (λ n. is-pending (n .fate) && eqb (n .board) i) notes k
+
+-- The notes of a transaction have one fate at every later point, whatever the system was: no test tells them apart.
+abbrev pub Transactions-whole : Type 0
+Transactions-whole =
+    (s : Shape) (w : System) (calls : List Call) (i a b : ℕ) (p : Fate → Bool)
+    → transaction (w .ledger .notes) i a ≡ true
+    → transaction (w .ledger .notes) i b ≡ true
+    → let after = later s w calls .ledger .notes in
+    note-is (λ n. p (n .fate)) after a ≡ note-is (λ n. p (n .fate)) after b
+
+-- No board keeps a transaction that read an undone byte: while one of its notes is not undone, none of them is noted
+-- with an undone write.
+abbrev pub No-undone-read-kept : Type 0
+No-undone-read-kept =
+    (s : Shape) (image : List ℕ) (r : Record) (k : ℕ) → verdict (format s image r k) ≡ done
+    → (calls more : List Call) (i a b : ℕ)
+    → let w = later s (formatted s image r k) calls in
+    let after = later s w more .ledger .notes in
+    transaction (w .ledger .notes) i a ≡ true
+    → transaction (w .ledger .notes) i b ≡ true
+    → note-is (λ n. not-undone (n .fate)) after a ≡ true
+    → note-is (λ n. anyOf (from-undone after) (sources-of (n .access))) after b ≡ false

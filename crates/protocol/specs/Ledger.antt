@@ -93,7 +93,7 @@ unfoldable pub writer : Shape → List Note → ℕ → ℕ
 writer s [] b = 0
 writer s (n ∷ ns) b = cond (wrote-in s b n) (cond (is-pending (n .fate)) (suc (n .board)) 0) (writer s ns b)
 
--- the number of cell a's last write not undone; the byte that write number k put into cell a, 0 for none
+-- the number of cell a's last write not undone; the byte that write number k put into its cell a, 0 for none
 unfoldable pub source : List Note → ℕ → Option ℕ
 source [] a = none
 source (n ∷ ns) a = cond (covers n a && not-undone (n .fate)) (some (length ns)) (source ns a)
@@ -103,15 +103,15 @@ byte-from [] a k = 0
 byte-from (n ∷ ns) a none = 0
 byte-from (n ∷ ns) a (some k) = cond (eqb k (length ns)) (byte-in n a) (byte-from ns a (some k))
 
--- the fate of note number k
-unfoldable pub fate-of : List Note → ℕ → Fate
-fate-of [] k = undone
-fate-of (n ∷ ns) k = cond (eqb k (length ns)) (n .fate) (fate-of ns k)
+-- whether there is a note number k, and p holds of it
+unfoldable pub note-is : (Note → Bool) → List Note → ℕ → Bool
+note-is p [] k = false
+note-is p (n ∷ ns) k = cond (eqb k (length ns)) (p n) (note-is p ns k)
 
 -- a read pending or kept that is noted with an undone write
 unfoldable pub from-undone : List Note → Option ℕ → Bool
 from-undone notes none = false
-from-undone notes (some k) = not (not-undone (fate-of notes k))
+from-undone notes (some k) = not (note-is (λ n. not-undone (n .fate)) notes k)
 
 unfoldable pub reads-undone : List Note → Note → Bool
 reads-undone notes n = not-undone (n .fate) && anyOf (from-undone notes) (sources-of (n .access))

@@ -2,4 +2,6 @@ pub mod Image
 pub mod Accesses
 pub mod Calls
 pub mod Ledger
+pub mod Dependences
 pub mod Claim
+pub mod Demand1
