@@ -32,7 +32,8 @@ use Rattle.boards.proofs.Basics.{decide, clash, and-true, any-none, none-any, A
 use Rattle.boards.proofs.Basics.{all-map, or-false, false-or, or-right, true-or, refute, eqb-same}
 use Rattle.boards.proofs.Groups.{has-below, has-zero, has-with, mask-below, meets-yes, commit-group-self}
 use Rattle.boards.proofs.Groups.{commit-group-within}
-use Rattle.volatile.proofs.Order.{Orderly, orderly, in-order as orderly-record, Asked, order-opened, rows-within}
+use Rattle.volatile.proofs.Order.{Orderly, orderly, in-order as orderly-record, May-acknowledge}
+use Rattle.volatile.proofs.Order.{order-opened, rows-within}
 use Rattle.volatile.proofs.Order.{depend-order, clear-order, fresh-order, awaiting-order}
 use Rattle.protocol.proofs.Refusals.{read-passed, write-passed, start-passed}
 use Rattle.protocol.proofs.Refusals.{acknowledge-passed, power-passed}
@@ -53,10 +54,10 @@ use Rattle.protocol.proofs.Invariant.{Invariant, up, down, power-taken}
 -- ---- tags
 
 -- a put that sets no tag above p
-record Tame (p : ℕ) (q : Put) : Type 0 where
+record Low-put (p : ℕ) (q : Put) : Type 0 where
   low : rank (q .area) ≡ rank Tags → q .value ≤ p
 
-tags-low : {p : ℕ} {ps : List Put} → All (Tame p) ps → (m : Memory) (b : ℕ) → m Tags b ≤ p → after ps m Tags b ≤ p
+tags-low : {p : ℕ} {ps : List Put} → All (Low-put p) ps → (m : Memory) (b : ℕ) → m Tags b ≤ p → after ps m Tags b ≤ p
 unfolding after change
 tags-low none m b l = l
 tags-low (also {x = q} t ts) m b l =
@@ -67,36 +68,36 @@ tags-low (also {x = q} t ts) m b l =
     (λ (e : eqb (rank (q .area)) (rank Tags) && eqb (q .index) b ≡ false). rw e l)
     (decide (eqb (rank (q .area)) (rank Tags) && eqb (q .index) b)))
 
-tame : {p v : ℕ} (a : Area) {i : ℕ} → rank a ≢ rank Tags → Tame p (put a i v)
-tame a h = record { low = λ e. absurd (h e) }
+low-put : {p v : ℕ} (a : Area) {i : ℕ} → rank a ≢ rank Tags → Low-put p (put a i v)
+low-put a h = record { low = λ e. absurd (h e) }
 
-zero-tame : {p b : ℕ} → Tame p (put Tags b 0)
-zero-tame = record { low = λ e. omega arith }
+zero-low : {p b : ℕ} → Low-put p (put Tags b 0)
+zero-low = record { low = λ e. omega arith }
 
-blocks-tame : {p : ℕ} (s : Shape) (m : Memory) (from to : Area) (chosen : ℕ → Bool) → rank to ≢ rank Tags
-    → All (Tame p) (blocks-copied s m from to chosen)
-blocks-tame s m from to chosen h = all-blocks s m from to chosen (λ b x v l e k. tame to h) (λ b l e. zero-tame)
+blocks-low : {p : ℕ} (s : Shape) (m : Memory) (from to : Area) (chosen : ℕ → Bool) → rank to ≢ rank Tags
+    → All (Low-put p) (blocks-copied s m from to chosen)
+blocks-low s m from to chosen h = all-blocks s m from to chosen (λ b x v l e k. low-put to h) (λ b l e. zero-low)
 
-completing-tame : {p : ℕ} (s : Shape) (m : Memory) (g : ℕ) → All (Tame p) (completing s m g)
+completing-low : {p : ℕ} (s : Shape) (m : Memory) (g : ℕ) → All (Low-put p) (completing s m g)
 unfolding completing rank
-completing-tame s m g =
-    all-append (blocks-tame s m Current Recovery (tagged-in g) (omega arith))
-    (all-append (all-contexts s m g (λ i x v l e k. tame Checkpoint (omega arith)))
-    (also (tame Decision (omega arith)) none))
+completing-low s m g =
+    all-append (blocks-low s m Current Recovery (tagged-in g) (omega arith))
+    (all-append (all-contexts s m g (λ i x v l e k. low-put Checkpoint (omega arith)))
+    (also (low-put Decision (omega arith)) none))
 
-deciding-tame : {p : ℕ} (s : Shape) (m : Memory) (g : ℕ) → All (Tame p) (deciding s m g)
+deciding-low : {p : ℕ} (s : Shape) (m : Memory) (g : ℕ) → All (Low-put p) (deciding s m g)
 unfolding deciding rank
-deciding-tame s m g =
-    also (tame Group (omega arith))
-    (also (tame Group (omega arith)) (also (tame Decision (omega arith)) (completing-tame s m g)))
+deciding-low s m g =
+    also (low-put Group (omega arith))
+    (also (low-put Group (omega arith)) (also (low-put Decision (omega arith)) (completing-low s m g)))
 
-tagging-tame : {p i : ℕ} → i < p → (m : Memory) (bs : List ℕ) → All (Tame p) (tagging m i bs)
+tagging-low : {p i : ℕ} → i < p → (m : Memory) (bs : List ℕ) → All (Low-put p) (tagging m i bs)
 unfolding tagging
-tagging-tame l m [] = none
-tagging-tame {i = i} l m (b ∷ bs) =
+tagging-low l m [] = none
+tagging-low {i = i} l m (b ∷ bs) =
     all-append
     (all-cond (eqb (m Tags b) (suc i)) (λ e. none) (λ e. also (record { low = λ r. l }) none))
-    (tagging-tame l m bs)
+    (tagging-low l m bs)
 
 -- puts past the header's areas leave the decision
 inside-undecided : {s : Shape} {ps : List Put} → All (Inside s) ps → (m : Memory) → after ps m Decision 0 ≡ m Decision 0
@@ -105,9 +106,9 @@ inside-undecided h m = untouched (all-map (λ p i. record { apart = λ r e. omeg
 
 -- ---- the plan of a call that is not refused
 
-record Sober (s : Shape) (m : Memory) (p : Plan) : Type 0 where
+record Keeps-order (s : Shape) (m : Memory) (p : Plan) : Type 0 where
   undecided : after (p .stores) m Decision 0 ≡ 0
-  tags : All (Tame (s .boards)) (p .stores)
+  tags : All (Low-put (s .boards)) (p .stores)
   state : Orderly (s .boards) (p .next)
   small : p .next .commit .acknowledged < 2 ^ 16
 
@@ -162,10 +163,10 @@ module _ (s : Shape) (m : Memory) (r : Record) (limit : Limits s) (undecided : m
       → Orderly P r → Orderly P (bind-blocks depend how (m Tags) r i bs)
   access-state l how bs tags o = binds-order l how (m Tags) r bs (low-tags (m Tags) bs tags) o
 
-  read-sober : (i a n room : ℕ) → i < P → Orderly P r → r .commit .acknowledged < 2 ^ 16
-      → first (read-tests s m r i a n room) ≡ 0 → Sober s m (plan s m r (Read i a n room))
+  read-keeps : (i a n room : ℕ) → i < P → Orderly P r → r .commit .acknowledged < 2 ^ 16
+      → first (read-tests s m r i a n room) ≡ 0 → Keeps-order s m (plan s m r (Read i a n room))
   unfolding plan after
-  read-sober i a n room l o small e =
+  read-keeps i a n room l o small e =
       let p = read-passed s m r i a n room e in
       record {
         undecided = undecided;
@@ -174,39 +175,39 @@ module _ (s : Shape) (m : Memory) (r : Record) (limit : Limits s) (undecided : m
         small = rw (commit-binds read-binding (m Tags) r i (touched s a n)) small;
       }
 
-  write-sober : (i a : ℕ) (bytes : List ℕ) → i < P → Orderly P r → r .commit .acknowledged < 2 ^ 16
-      → first (write-tests s m r i a (length bytes)) ≡ 0 → Sober s m (plan s m r (Write i a bytes))
+  write-keeps : (i a : ℕ) (bytes : List ℕ) → i < P → Orderly P r → r .commit .acknowledged < 2 ^ 16
+      → first (write-tests s m r i a (length bytes)) ≡ 0 → Keeps-order s m (plan s m r (Write i a bytes))
   unfolding plan rank
-  write-sober i a bytes l o small e =
+  write-keeps i a bytes l o small e =
       let n = length bytes in
       let p = write-passed s m r i a n e in
       let inside = write-inside s m i a bytes (limit .some-size) (ranged s a n (p .range)) in
       record {
         undecided = inside-undecided inside m ∙ undecided;
         tags =
-            all-append (tagging-tame l m (touched s a n))
-            (all-placing Current a bytes (λ x v k. tame Current (omega arith)));
+            all-append (tagging-low l m (touched s a n))
+            (all-placing Current a bytes (λ x v k. low-put Current (omega arith)));
         state = access-state l (write-binding s a n) (touched s a n) (p .tags) o;
         small = rw (commit-binds (write-binding s a n) (m Tags) r i (touched s a n)) small;
       }
 
   -- ---- a fault
 
-  fault-sober : (i : ℕ) → Orderly P r → r .commit .acknowledged < 2 ^ 16 → Sober s m (plan s m r (Fault i))
+  fault-keeps : (i : ℕ) → Orderly P r → r .commit .acknowledged < 2 ^ 16 → Keeps-order s m (plan s m r (Fault i))
   unfolding plan rank
-  fault-sober i o small =
+  fault-keeps i o small =
       let g = fault-group (depends r) i in
       let inside = blocks-inside s m Recovery Current (tagged-in g) current in
       record {
         undecided = inside-undecided inside m ∙ undecided;
-        tags = blocks-tame s m Recovery Current (tagged-in g) (omega arith);
+        tags = blocks-low s m Recovery Current (tagged-in g) (omega arith);
         state = clear-order P r g (o .on) (o .rows) (λ e. o .commit);
         small = left-small r g small;
       }
 
   -- ---- a context given
 
-  module _ {i : ℕ} (l : i < P) {before : Record} (a : Asked P i before) (context : List ℕ)
+  module _ {i : ℕ} (l : i < P) {before : Record} (a : May-acknowledge P i before) (context : List ℕ)
       (full : length context ≡ s .context) where
     abbrev acks : ℕ
     acks = with-board (before .commit .acknowledged) i
@@ -223,9 +224,9 @@ module _ (s : Shape) (m : Memory) (r : Record) (limit : Limits s) (undecided : m
     given-undecided : after given m Decision 0 ≡ 0
     given-undecided = inside-undecided (given-inside s i context l full) m ∙ undecided
 
-    given-sober : Sober s m (acknowledging s m before i context)
+    given-keeps : Keeps-order s m (acknowledging s m before i context)
     unfolding acknowledging acknowledge commit-of rank
-    given-sober =
+    given-keeps =
         ⊎-elim
         (λ (e : eqb acks g ≡ true).
         rw e
@@ -233,7 +234,7 @@ module _ (s : Shape) (m : Memory) (r : Record) (limit : Limits s) (undecided : m
           undecided =
               ap (λ n. n Decision 0) (decision-done s m i g context)
               ∙ completed s (limit .some-size) (decision s m i g context) g .undecided;
-          tags = all-append given-tame (deciding-tame s (after given m) g);
+          tags = all-append given-low (deciding-low s (after given m) g);
           state = clear-order P (acknowledge before i) g (a .on) (a .rows) (λ e. clash meets-itself e);
           small = left-small (acknowledge before i) g small-acks;
         }))
@@ -241,21 +242,21 @@ module _ (s : Shape) (m : Memory) (r : Record) (limit : Limits s) (undecided : m
         rw (e, append-nil)
         (record {
           undecided = given-undecided;
-          tags = given-tame;
+          tags = given-low;
           state = awaiting-order a (eqb-false acks g e);
           small = small-acks;
         }))
         (decide (eqb acks g))
       where
-        given-tame : All (Tame P) given
-        given-tame = all-placing Tentative (i * s .context) context (λ x v k. tame Tentative (omega arith))
+        given-low : All (Low-put P) given
+        given-low = all-placing Tentative (i * s .context) context (λ x v k. low-put Tentative (omega arith))
 
         meets-itself : meets g (has g) ≡ true
         meets-itself = let most = limit .most-boards in meets-yes g (has g) i (omega arith) (a .member) (a .member)
 
-  start-asked : {i : ℕ} → i < P → Orderly P r → Asked P i (opened r i (commit-group (depends r) i))
+  start-may : {i : ℕ} → i < P → Orderly P r → May-acknowledge P i (opened r i (commit-group (depends r) i))
   unfolding opened depends
-  start-asked {i} l o =
+  start-may {i} l o =
       let most = limit .most-boards in
       let small : i < 16 = omega arith in
       record {
@@ -270,9 +271,9 @@ module _ (s : Shape) (m : Memory) (r : Record) (limit : Limits s) (undecided : m
       }
 
   -- the record of an acknowledgement that is not refused has its commit open
-  acknowledge-asked : {i : ℕ} → i < P → Orderly P r → r .commit .acknowledged < 2 ^ 16
-      → has (r .commit .members) i ≡ true → Asked P i r
-  acknowledge-asked {i} l o small member =
+  acknowledge-may : {i : ℕ} → i < P → Orderly P r → r .commit .acknowledged < 2 ^ 16
+      → has (r .commit .members) i ≡ true → May-acknowledge P i r
+  acknowledge-may {i} l o small member =
       let c = r .commit in
       let some : c .members ≢ 0 = λ z. clash member (ap (λ g. has g i) z ∙ has-zero i) in
       let began = order-opened P c small some (o .commit) in
@@ -296,9 +297,10 @@ first-undecided s m limit few =
     (λ (e : eqb (m Decision 0) 1 ≡ false). rw e (let q = eqb-false (m Decision 0) 1 e in omega arith))
     (decide (eqb (m Decision 0) 1))
 
-power-sober : (s : Shape) (m : Memory) (r : Record) → Limits s → m Decision 0 ≤ 1 → Sober s m (plan s m r Power-up)
+power-keeps : (s : Shape) (m : Memory) (r : Record) → Limits s → m Decision 0 ≤ 1
+    → Keeps-order s m (plan s m r Power-up)
 unfolding plan recovering completed-first rank fresh closed
-power-sober s m r limit few =
+power-keeps s m r limit few =
     let done = completed-first s m in
     let rest = blocks-copied s (after done m) Recovery Current tagged in
     record {
@@ -308,8 +310,8 @@ power-sober s m r limit few =
           ∙ first-undecided s m limit few;
       tags =
           all-append
-          (all-cond (eqb (m Decision 0) 1) (λ e. completing-tame s m (stored-group m)) (λ e. none))
-          (blocks-tame s (after done m) Recovery Current tagged (omega arith));
+          (all-cond (eqb (m Decision 0) 1) (λ e. completing-low s m (stored-group m)) (λ e. none))
+          (blocks-low s (after done m) Recovery Current tagged (omega arith));
       state = fresh-order (s .boards);
       small = pow-pos 16;
     }
@@ -342,31 +344,31 @@ module _ (image : List ℕ) (r : Record) (small : r .commit .acknowledged < 2 ^ 
         own = b .2;
       }
 
-  sober : (request : Request) → refusal-at image r request ≡ 0 → Sober s m (plan s m r request)
+  plan-keeps : (request : Request) → refusal-at image r request ≡ 0 → Keeps-order s m (plan s m r request)
   unfolding refusals plan engaged
-  sober (Read i a n room) e =
+  plan-keeps (Read i a n room) e =
       let p = passed-first i (read-tests s m r i a n room) e in
-      read-sober s m r (p .limit) (p .undecided) i a n room (p .board) (p .state) small (p .own)
-  sober (Write i a bytes) e =
+      read-keeps s m r (p .limit) (p .undecided) i a n room (p .board) (p .state) small (p .own)
+  plan-keeps (Write i a bytes) e =
       let p = passed-first i (write-tests s m r i a (length bytes)) e in
-      write-sober s m r (p .limit) (p .undecided) i a bytes (p .board) (p .state) small (p .own)
-  sober (Start i context) e =
+      write-keeps s m r (p .limit) (p .undecided) i a bytes (p .board) (p .state) small (p .own)
+  plan-keeps (Start i context) e =
       let p = passed-first i (start-tests s r (length context)) e in
-      given-sober s m r (p .limit) (p .undecided) (p .board)
-      (start-asked s m r (p .limit) (p .undecided) (p .board) (p .state)) context
+      given-keeps s m r (p .limit) (p .undecided) (p .board)
+      (start-may s m r (p .limit) (p .undecided) (p .board) (p .state)) context
       (start-passed s r (length context) (p .own) .full)
-  sober (Acknowledge i context) e =
+  plan-keeps (Acknowledge i context) e =
       let p = passed-first i (acknowledge-tests s r i (length context)) e in
       let q = acknowledge-passed s r i (length context) (p .own) in
-      given-sober s m r (p .limit) (p .undecided) (p .board)
-      (acknowledge-asked s m r (p .limit) (p .undecided) (p .board) (p .state) small (q .member)) context (q .full)
-  sober (Fault i) e =
+      given-keeps s m r (p .limit) (p .undecided) (p .board)
+      (acknowledge-may s m r (p .limit) (p .undecided) (p .board) (p .state) small (q .member)) context (q .full)
+  plan-keeps (Fault i) e =
       let p = passed-first i [] (rw append-nil e) in
-      fault-sober s m r (p .limit) (p .undecided) i (p .state) small
-  sober Power-up e =
+      fault-keeps s m r (p .limit) (p .undecided) i (p .state) small
+  plan-keeps Power-up e =
       let sound = order-sound (power-passed image s m e .ordered) in
       let few : m Decision 0 ≤ 1 = omega (arith, view-decision (sound .0), sound .1) in
-      power-sober s m r (limits s (sound .0 .allowed-shape)) few
+      power-keeps s m r (limits s (sound .0 .allowed-shape)) few
 
 -- a done call was not refused
 done-taken : (image : List ℕ) (r : Record) (request : Request) (k : ℕ) → verdict (perform image r request k) ≡ done
@@ -383,12 +385,12 @@ unfolding bad-tags
 order-kept image r request k small v =
     let e = done-taken image r request k v in
     let valid = plan-valid image r request e in
-    ends (sober image r small request e) (result (valid .0) r request k (λ e. valid .1))
+    ends (plan-keeps image r small request e) (result (valid .0) r request k (λ e. valid .1))
   where
     s : Shape
     s = shape-of image
 
-    tags : {n : Memory} → All (Tame (s .boards)) (plan s (view s image) r request .stores)
+    tags : {n : Memory} → All (Low-put (s .boards)) (plan s (view s image) r request .stores)
         → n ≡ after (plan s (view s image) r request .stores) (view s image)
         → any (s .blocks) (λ b. ltb (s .boards) (view s image Tags b)) ≡ false
         → any (s .blocks) (λ b. ltb (s .boards) (n Tags b)) ≡ false
@@ -397,7 +399,7 @@ order-kept image r request k small v =
         let was = ltb-false (s .boards) (view s image Tags b) (any-none (s .blocks) _ before b l) in
         rw e (le-ltb (s .boards) _ (tags-low low (view s image) b was)))
 
-    ends : Sober s (view s image) (plan s (view s image) r request) → Result s image r request k
+    ends : Keeps-order s (view s image) (plan s (view s image) r request) → Result s image r request k
         → Left-in-order s image (perform image r request k)
     ends p (turned-away w a b c e) = not-done w v
     ends p (stopped e f) = cut-not-done (f .ended) v
@@ -419,32 +421,32 @@ unfoldable pub of-state : ℕ → Bool
 of-state n = eqb n 11 || eqb n 12
 
 -- a test that does not hold, if it has one of these numbers
-record Harmless (t : Test) : Type 0 where
+record Clear-of-state (t : Test) : Type 0 where
   passed : of-state (t .number) ≡ true → t .holds ≡ false
 
-first-harmless : {ts : List Test} → All Harmless ts → of-state (first ts) ≡ false
+first-clear : {ts : List Test} → All Clear-of-state ts → of-state (first ts) ≡ false
 unfolding first of-state
-first-harmless none = refl
-first-harmless (also {x = t} h hs) =
+first-clear none = refl
+first-clear (also {x = t} h hs) =
     ⊎-elim
     (λ (e : t .holds ≡ true). rw e (refute (of-state (t .number)) (λ n. clash e (h .passed n))))
-    (λ (e : t .holds ≡ false). rw e (first-harmless hs))
+    (λ (e : t .holds ≡ false). rw e (first-clear hs))
     (decide (t .holds))
 
-held : {b : Bool} {n : ℕ} → b ≡ false → Harmless (test b n)
-held e = record { passed = λ n. e }
+not-held : {b : Bool} {n : ℕ} → b ≡ false → Clear-of-state (test b n)
+not-held e = record { passed = λ n. e }
 
-harmless : {b : Bool} {n : ℕ} → of-state n ≡ false → Harmless (test b n)
-harmless e = record { passed = λ n. clash n e }
+other-number : {b : Bool} {n : ℕ} → of-state n ≡ false → Clear-of-state (test b n)
+other-number e = record { passed = λ n. clash n e }
 
 module _ {s : Shape} {image : List ℕ} (r : Record) (h : Sound s image) (undecided : byte image 9 ≡ 0)
     (state : bad-record (s .boards) r ≡ false) (tags : (b : ℕ) → view s image Tags b ≤ s .boards) where
-  entry-harmless : (i : ℕ) → All Harmless (entry-tests image r i)
+  entry-clear : (i : ℕ) → All Clear-of-state (entry-tests image r i)
   unfolding entry-tests of-state
-  entry-harmless i =
-      also (held (ap not (in-order-sound s image h 0 ∙ ap (λ n. leb n 0) undecided)))
-      (also (held (ap (λ t. bad-record (t .boards) r) (h .shape) ∙ state))
-      (also (harmless refl) none))
+  entry-clear i =
+      also (not-held (ap not (in-order-sound s image h 0 ∙ ap (λ n. leb n 0) undecided)))
+      (also (not-held (ap (λ t. bad-record (t .boards) r) (h .shape) ∙ state))
+      (also (other-number refl) none))
 
   touched-low : (bs : List ℕ) → anyOf (ltb (s .boards)) (map (view s image Tags) bs) ≡ false
   unfolding anyOf
@@ -455,28 +457,29 @@ module _ {s : Shape} {image : List ℕ} (r : Record) (h : Sound s image) (undeci
       → of-state (first (refusals image s (view s image) r request)) ≡ false
   unfolding refusals read-tests write-tests start-tests acknowledge-tests of-state
   otherwise-refused power (Read i a n room) =
-      first-harmless
-      (all-append (entry-harmless i)
-      (also (harmless refl)
-      (also (harmless refl) (also (held (touched-low (touched s a n))) (also (harmless refl) none)))))
+      first-clear
+      (all-append (entry-clear i)
+      (also (other-number refl)
+      (also (other-number refl) (also (not-held (touched-low (touched s a n))) (also (other-number refl) none)))))
   otherwise-refused power (Write i a bytes) =
-      first-harmless
-      (all-append (entry-harmless i)
-      (also (harmless refl) (also (held (touched-low (touched s a (length bytes)))) (also (harmless refl) none))))
+      first-clear
+      (all-append (entry-clear i)
+      (also (other-number refl)
+      (also (not-held (touched-low (touched s a (length bytes)))) (also (other-number refl) none))))
   otherwise-refused power (Start i context) =
-      first-harmless (all-append (entry-harmless i) (also (harmless refl) (also (harmless refl) none)))
+      first-clear (all-append (entry-clear i) (also (other-number refl) (also (other-number refl) none)))
   otherwise-refused power (Acknowledge i context) =
-      first-harmless
-      (all-append (entry-harmless i) (also (harmless refl) (also (harmless refl) (also (harmless refl) none))))
-  otherwise-refused power (Fault i) = first-harmless (entry-harmless i)
+      first-clear
+      (all-append (entry-clear i) (also (other-number refl) (also (other-number refl) (also (other-number refl) none))))
+  otherwise-refused power (Fault i) = first-clear (entry-clear i)
   otherwise-refused power Power-up = ap of-state power
 
 -- so its status is none of these
-pub status-harmless : (image : List ℕ) (r : Record) (request : Request) (k : ℕ)
+pub status-clear : (image : List ℕ) (r : Record) (request : Request) (k : ℕ)
     → of-state (refusal-at image r request) ≡ false
     → of-state (perform image r request k .reply .answer .status) ≡ false
 unfolding executed refuse of-state
-status-harmless image r request k h =
+status-clear image r request k h =
     let n = refusal-at image r request in
     ⊎-elim
     (λ (e : eqb n 0 ≡ true).
@@ -523,7 +526,7 @@ module _ {s : Shape} (w : System) (h : Sound s (w .image)) (on : On s (view s (w
       let zero = sym (view-decision h) ∙ on .undecided in
       let tests = otherwise-refused (w .state) h zero r tags-in-order (power-taken h (w .state) calm) request in
       state-numbers _
-      (status-harmless (w .image) (w .state) request k
+      (status-clear (w .image) (w .state) request k
       (subst (λ t. of-state (first (refusals (w .image) t (view t (w .image)) (w .state) request)) ≡ false)
       (sym (h .shape)) tests))
 

@@ -205,7 +205,7 @@ fresh-order p =
     }
 
 -- board i acknowledges: what it leaves, whether or not others are awaited
-pub record Asked (p i : ℕ) (r : Record) : Type 0 where
+pub record May-acknowledge (p i : ℕ) (r : Record) : Type 0 where
   pub on : r .on ≡ true
   pub rows : bad-rows p (r .rows) ≡ false
   pub member : has (r .commit .members) i ≡ true
@@ -213,7 +213,7 @@ pub record Asked (p i : ℕ) (r : Record) : Type 0 where
   pub inside : (j : ℕ) → j < 16 → has (r .commit .acknowledged) j ≡ true → has (r .commit .members) j ≡ true
   pub starter : has (with-board (r .commit .acknowledged) i) (r .commit .starter) ≡ true
 
-module _ {p i : ℕ} {r : Record} (a : Asked p i r) where
+module _ {p i : ℕ} {r : Record} (a : May-acknowledge p i r) where
   abbrev acks : ℕ
   acks = with-board (r .commit .acknowledged) i
 
