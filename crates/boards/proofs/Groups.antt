@@ -118,12 +118,12 @@ meets-yes g p j l h e = some-any 16 (λ j. has g j && p j) j l (true-and h e)
 pub meets-no : (g : ℕ) (p : ℕ → Bool) → meets g p ≡ false → (j : ℕ) → j < 16 → has g j ≡ true → p j ≡ false
 meets-no g p n j l h = refute (p j) (λ e. clash (true-and h e) (any-none 16 (λ j. has g j && p j) n j l))
 
-pub no-beyond : (p g : ℕ) → ((j : ℕ) → has g j ≡ true → j < p) → beyond p g ≡ false
+pub no-beyond : (p g : ℕ) → ((j : ℕ) → j < 16 → has g j ≡ true → j < p) → beyond p g ≡ false
 unfolding beyond
 no-beyond p g f =
     none-any 16 (λ j. leb p j && has g j)
     (λ j l. ⊎-elim
-    (λ (e : has g j ≡ true). false-and (has g j) (lt-leb p j (f j e)))
+    (λ (e : has g j ≡ true). false-and (has g j) (lt-leb p j (f j l e)))
     (λ (e : has g j ≡ false). and-false (leb p j) e)
     (decide (has g j)))
 

@@ -1,7 +1,7 @@
 -- Laws for code: sets of boards by bit operations, tags, rows set one at a time.
 use Prim.Native.Nat.{ℕ, zero, suc, _+_, _-_, _*_, _/_, _%_, _^_, _≤_, _<_, min, max}
 use mathlib.Core.Path.{_≡_, refl, sym, _∙_, ap, ap₂}
-use mathlib.Core.Bool.{Bool, true, false, _&&_, _||_, not, and-comm, or-comm, or-assoc, or-false}
+use mathlib.Core.Bool.{Bool, true, false, _&&_, _||_, not, and-comm, or-comm, or-false}
 use mathlib.Core.List.{List, [], _∷_, _++_}
 use mathlib.Core.Logic.{_⊎_, inl, inr}
 use mir.Syntax.{w16}
@@ -14,14 +14,13 @@ use lib.Pow.{shr-shr, shl-exact, pow-pos, pow-lt}
 use native.Mathlib.Omega.{arith}
 use native.Mathlib.Nat.{pow-suc, one-mul, div-one, div-eq-of-lt, div-lt-iff-lt-mul}
 use native.Mathlib.Numerals.{one-add, add-one}
-use native.Mathlib.Decide.{le-ind}
-use borrow.Author.Tests.{eq-eqb, ne-eqb, eqb-true, eqb-false, le-leb, leb-true, leb-false}
-use Rattle.boards.specs.Lists.{for, any}
+use borrow.Author.Tests.{eq-eqb, ne-eqb, eqb-true, eqb-false, leb-true, leb-false}
+use Rattle.boards.specs.Lists.{for}
 use Rattle.boards.specs.Boards.{has, mask, setOf, single, with-board, meets, within, beyond, tagged-in, Links}
 use Rattle.boards.specs.Boards.{link, unlink}
 use Rattle.boards.specs.Rows.{links-of, rows-of, joined}
-use Rattle.boards.proofs.Basics.{decide, clash, and-true, true-and, false-and, and-false, true-or, test-ext}
-use Rattle.boards.proofs.Basics.{eqb-same, every-at, every-all, any-none, some-any, any-some}
+use Rattle.boards.proofs.Basics.{decide, clash, false-and, test-ext}
+use Rattle.boards.proofs.Basics.{every-at, every-all, any-none, any-some}
 use Rattle.boards.proofs.Groups.{has-zero, has-mask, has-none, has-ext, has-single, has-small, has-below}
 use Rattle.boards.proofs.Groups.{has-beyond}
 use Rattle.boards.proofs.Groups.{mask-below, no-beyond, length-for, getD-for}
@@ -178,11 +177,11 @@ beyond-shift p g l s = go (decide (beyond p g))
 
     go : (beyond p g ≡ true) ⊎ (beyond p g ≡ false) → not (eqb (g / 2 ^ p) 0) ≡ beyond p g
     go (inl e) =
-        ap not (ne-eqb (g / 2 ^ p) 0 (λ z. clash e (no-beyond p g (λ j h. has-below p g j (small z) h)))) ∙ sym e
+        ap not (ne-eqb (g / 2 ^ p) 0 (λ z. clash e (no-beyond p g (λ j l h. has-below p g j (small z) h)))) ∙ sym e
     go (inr e) = ap not (eq-eqb (g / 2 ^ p) 0 (div-eq-of-lt (below-power p g l s e))) ∙ sym e
 
 pub beyond-none : (p g : ℕ) → 16 ≤ p → g < 2 ^ 16 → beyond p g ≡ false
-beyond-none p g l s = no-beyond p g (λ j h. omega (arith, has-below 16 g j s h))
+beyond-none p g l s = no-beyond p g (λ j below h. omega (arith, has-below 16 g j s h))
 
 -- ---- tags
 

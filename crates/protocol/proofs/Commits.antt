@@ -226,7 +226,7 @@ module _ {s : Shape} {m : Memory} {r : Record} {l : Ledger} (h : On s m r l) (mo
             decided = refl;
             group = set-split g;
             some = the-commit .1 .some;
-            below = no-beyond (s .boards) g (the-commit .1 .below);
+            below = no-beyond (s .boards) g (λ j l. the-commit .1 .below j);
             tags = calm .tags;
             saving = λ a k e. on .current a k ∙ sym (kept-in a k e);
             recovery = λ a k e. on .recovery a k ∙ sym (kept-out a k e);

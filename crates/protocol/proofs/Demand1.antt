@@ -153,25 +153,27 @@ format-proper s image r =
         (all-append (ascending-below _ 1 (total s - 1) (length image) (omega arith))
         (also {x = record { at = 0; value = _ }} (omega arith) none))
 
+-- a refused request hands its record back, but for a power-up
+pub same-record : (r : Record) (request : Request) → request ≢ Power-up → record-refused r request ≡ r
+unfolding record-refused
+same-record r (Read i a n room) other = refl
+same-record r (Write i a bytes) other = refl
+same-record r (Start i context) other = refl
+same-record r (Acknowledge i context) other = refl
+same-record r (Fault i) other = refl
+same-record r Power-up other = absurd (other refl)
+
 pub demand-1 : Demand-1
 unfolding record-refused
 demand-1 =
     record {
       requests =
           λ image r request other.
-          subst (λ x. Proper image x (perform image r request)) (same r request other)
+          subst (λ x. Proper image x (perform image r request)) (same-record r request other)
           (performed-proper image r request);
       power-ups = λ image r. performed-proper image r Power-up;
       formats = format-proper;
     }
-  where
-    same : (r : Record) (request : Request) → request ≢ Power-up → record-refused r request ≡ r
-    same r (Read i a n room) other = refl
-    same r (Write i a bytes) other = refl
-    same r (Start i context) other = refl
-    same r (Acknowledge i context) other = refl
-    same r (Fault i) other = refl
-    same r Power-up other = absurd (other refl)
 
 -- ---- a read, and its buffer
 

@@ -25,7 +25,7 @@ use Rattle.boards.proofs.Basics.{decide, clash}
 use Rattle.boards.proofs.Basics.{getD-span, length-span}
 use Rattle.boards.proofs.Groups.{has-zero}
 use Rattle.volatile.proofs.Records.{depends-fresh}
-use Rattle.volatile.proofs.Order.{fresh-order, in-order as orderly-record, orderly}
+use Rattle.volatile.proofs.Order.{fresh-order, orderly-record, orderly}
 use Rattle.protocol.proofs.Outcomes.{not-done, cut-not-done}
 use Rattle.protocol.proofs.Marks.{marks, live, saved, live-byte}
 use Rattle.protocol.proofs.Consistent.{blank-ok, clean-reads}

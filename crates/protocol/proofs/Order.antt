@@ -22,7 +22,7 @@ use Rattle.protocol.specs.Calls.{Request, Read, Write, Start, Acknowledg
 use Rattle.protocol.specs.Calls.{refusals, entry-tests, read-tests, write-tests, start-tests, acknowledge-tests}
 use Rattle.protocol.specs.Calls.{bad-tags, stored-group, placing, tagging, blocks-copied, completing, deciding}
 use Rattle.protocol.specs.Calls.{completed-first, recovering, acknowledging, Plan, plan, perform, refusal-at}
-use Rattle.protocol.specs.Calls.{executed, refused as refuse, record-refused}
+use Rattle.protocol.specs.Calls.{executed, refused as refuse}
 use Rattle.protocol.specs.Ledger.{done, Verdict, refused, cut}
 use Rattle.protocol.specs.Claim.{verdict, System, waits, answer, next, Answers}
 use Rattle.protocol.specs.Demand1.{Left-in-order, Order-kept}
@@ -32,7 +32,7 @@ use Rattle.boards.proofs.Basics.{decide, clash, and-true, any-none, none-any, A
 use Rattle.boards.proofs.Basics.{all-map, or-false, false-or, or-right, true-or, refute, eqb-same}
 use Rattle.boards.proofs.Groups.{has-below, has-zero, has-with, mask-below, meets-yes, commit-group-self}
 use Rattle.boards.proofs.Groups.{commit-group-within}
-use Rattle.volatile.proofs.Order.{Orderly, orderly, in-order as orderly-record, May-acknowledge}
+use Rattle.volatile.proofs.Order.{Orderly, orderly, orderly-record, May-acknowledge}
 use Rattle.volatile.proofs.Order.{order-opened, rows-within}
 use Rattle.volatile.proofs.Order.{depend-order, clear-order, fresh-order, awaiting-order}
 use Rattle.protocol.proofs.Refusals.{read-passed, write-passed, start-passed}
@@ -41,13 +41,11 @@ use Rattle.protocol.proofs.Memory.{after-append, untouched}
 use Rattle.protocol.proofs.Bridge.{Sound, Limits, limits, order-sound, in-order-sound, view-decision}
 use Rattle.protocol.proofs.Copies.{Inside, all-placing, all-blocks, all-contexts, blocks-inside, current}
 use Rattle.protocol.proofs.Safety.{completed, decision, decision-done, idle}
-use Rattle.protocol.proofs.Demand1.{taken, turned-down, refused-as, cut-off}
-use Rattle.protocol.proofs.Demand1.{refused-record}
+use Rattle.protocol.proofs.Demand1.{taken, turned-down, refused-as, cut-off, refused-record, same-record}
 use Rattle.protocol.proofs.Outcomes.{Result, turned-away, stopped, finished, result, not-done, cut-not-done}
 use Rattle.protocol.proofs.Plans.{begun, plan-valid, ranged, write-inside, given-inside}
 use Rattle.protocol.proofs.Steps.{commit-binds}
 use Rattle.protocol.proofs.Consistent.{writer-below}
-use Rattle.protocol.proofs.Format as Format
 use Rattle.protocol.proofs.Agreement.{On, on-idle}
 use Rattle.protocol.proofs.Invariant.{Invariant, up, down, power-taken}
 
@@ -557,21 +555,13 @@ module _ {s : Shape} {w : System} (i : Invariant s w) (ready : Ready s w) (reque
   cut-ready v =
       record { small = rw (cut-off (w .image) (w .state) request k v) (pow-pos 16); state = λ q. clash (rw v) q }
 
-  -- no power-up is refused
-  refused-same-record : (request : Request) → Answers s w request k → verdict (answer w request k) ≡ refused
-      → record-refused (w .state) request ≡ w .state
-  unfolding record-refused
-  refused-same-record (Read j a n room) told v = refl
-  refused-same-record (Write j a bytes) told v = refl
-  refused-same-record (Start j context) told v = refl
-  refused-same-record (Acknowledge j context) told v = refl
-  refused-same-record (Fault j) told v = refl
-  refused-same-record Power-up told v = absurd (told v)
-
   refused-ready : Answers s w request k → verdict (answer w request k) ≡ refused → Ready s (next s w request k)
   unfolding next answer waits
   refused-ready a v =
-      let same = refused-record (w .image) (w .state) request k v ∙ refused-same-record request a v in
+      -- no power-up is refused
+      let other : request ≢ Power-up = λ e.
+      subst (λ q. Answers s w q k) e a (subst (λ q. verdict (answer w q k) ≡ refused) e v) in
+      let same = refused-record (w .image) (w .state) request k v ∙ same-record (w .state) request other in
       record {
         small = subst (λ r. r .commit .acknowledged < 2 ^ 16) (sym same) (ready .small);
         state = λ q. subst (λ r. bad-record (s .boards) r ≡ false) (sym same) (ready .state (rw v at q));

@@ -8,10 +8,10 @@ use lib.Dec.{eqb, leb}
 use lib.ListN.{getD}
 use native.Mathlib.Omega.{arith}
 use borrow.Author.Tests.{eq-eqb, ne-eqb, eqb-true, leb-true, leb-false}
-use Rattle.boards.specs.Lists.{for, any, every}
+use Rattle.boards.specs.Lists.{for, every}
 use Rattle.boards.specs.Boards.{has, mask, setOf, with-board, meets, within, beyond, Links, unlinked, link, unlink}
 use Rattle.boards.specs.Rows.{links-of, rows-of, emptied}
-use Rattle.boards.proofs.Basics.{decide, clash, or-false, false-or, and-true, and-false, false-and}
+use Rattle.boards.proofs.Basics.{decide, clash, or-false, false-or, and-false, false-and}
 use Rattle.boards.proofs.Basics.{or-true, not-false, refute, any-none, none-any}
 use Rattle.boards.proofs.Groups.{has-zero, has-mask, mask-below, has-none, has-below, has-with, no-beyond, getD-for}
 use Rattle.boards.proofs.Groups.{link-cases, unlink-true, words-by-members}
@@ -69,7 +69,7 @@ within-rows {p} d w =
         let k = has-below 16 (setOf (d a)) j (mask-below 16 (d a)) h in
         w .ends a j l k (sym (has-mask 16 (d a) j k) ∙ h)
         in
-        false-or (no-beyond p (setOf (d a)) (λ j h. one j h .1))
+        false-or (no-beyond p (setOf (d a)) (λ j l h. one j h .1))
         (false-or
         (⊎-elim
         (λ (t : leb p a ≡ true).
@@ -95,15 +95,15 @@ orderly p r e =
     let two = or-false (bad-rows p (r .rows)) (bad-commit p (r .commit)) (one .1) in
     record { on = not-false (r .on) (one .0); rows = two .0; commit = two .1 }
 
-pub in-order : {p : ℕ} {r : Record} → Orderly p r → bad-record p r ≡ false
+pub orderly-record : {p : ℕ} {r : Record} → Orderly p r → bad-record p r ≡ false
 unfolding bad-record
-in-order o = false-or (ap not (o .on)) (false-or (o .rows) (o .commit))
+orderly-record o = false-or (ap not (o .on)) (false-or (o .rows) (o .commit))
 
 -- ---- commits
 
 pub closed-order : (p : ℕ) → bad-commit p closed ≡ false
 unfolding bad-commit bad-closed closed
-closed-order p = let none = no-beyond p 0 (λ j h. clash h (has-zero j)) in false-or none (false-or none refl)
+closed-order p = let none = no-beyond p 0 (λ j l h. clash h (has-zero j)) in false-or none (false-or none refl)
 
 -- what test 12 asks of an open commit
 pub record Opened (p : ℕ) (c : Commit) : Type 0 where
@@ -113,10 +113,10 @@ pub record Opened (p : ℕ) (c : Commit) : Type 0 where
   pub starter : has (c .acknowledged) (c .starter) ≡ true
 
 pub opened-order : (p : ℕ) (c : Commit) → c .acknowledged ≢ c .members → Opened p c → bad-commit p c ≡ false
-unfolding bad-commit bad-open beyond
+unfolding bad-commit bad-open
 opened-order p c missing o =
-    false-or (none-beyond (c .members) (o .below))
-    (false-or (none-beyond (c .acknowledged) (λ j l h. o .below j l (o .inside j l h)))
+    false-or (no-beyond p (c .members) (o .below))
+    (false-or (no-beyond p (c .acknowledged) (λ j l h. o .below j l (o .inside j l h)))
     (⊎-elim
     (λ (e : eqb (c .members) 0 ≡ true). absurd (empty (eqb-true (c .members) 0 e)))
     (λ (e : eqb (c .members) 0 ≡ false).
@@ -126,14 +126,6 @@ opened-order p c missing o =
     (false-or (ne-eqb (c .acknowledged) (c .members) missing) (ap not (o .starter)))))
     (decide (eqb (c .members) 0))))
   where
-    none-beyond : (g : ℕ) → ((j : ℕ) → j < 16 → has g j ≡ true → j < p) → any 16 (λ j. leb p j && has g j) ≡ false
-    none-beyond g f =
-        none-any 16 _ (λ j l. refute (leb p j && has g j) (λ e.
-        let both = and-true (leb p j) (has g j) e in
-        let up = leb-true p j (both .0) in
-        let down = f j l (both .1) in
-        omega arith))
-
     empty : c .members ≡ 0 → ⊥
     empty z =
         let l = has-below 16 (c .acknowledged) (c .starter) (o .small) (o .starter) in
