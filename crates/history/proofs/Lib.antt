@@ -1,0 +1,4 @@
+pub mod Runs
+pub mod Formats
+pub mod Joined
+pub mod Unformatted
