@@ -1,39 +1,14 @@
-// Plays the event file of each pair that the arguments name and compares what it answers with the stored answers.
-// NAME stands for NAME.events and NAME.answers, in the folder that the program is run in.
-use runner::Run;
-use runner::play_last;
-use runner::play_lines;
+// Plays the event file of each pair that the arguments name, read in pieces of several sizes, and compares what is
+// answered with the stored answers. NAME stands for NAME.events and NAME.answers, in the folder that the program is run
+// in; what is answered goes through a file of that folder.
+use stream::Ended;
 ghost use Prim.Native.Nat.{_+_, _≤_};
 ghost use lib.ListN.{length};
-ghost use Rattle.runner.specs.Pieces.{Fits};
 
 // What was read of a file, and whether that is all of it.
 struct Got {
     length: usize,
     whole: bool,
-}
-
-// What was read of a pair, and whether that is all.
-struct Pair {
-    given: usize,
-    wanted: usize,
-    whole: bool,
-}
-
-// The run after some whole lines, how much of the events they are, how many bytes of output were as the answers have
-// them, and whether all were.
-struct Played {
-    run: Run,
-    read: usize,
-    at: usize,
-    same: bool,
-}
-
-// How many lines were played; where the answers differ, if they are not the same.
-struct Outcome {
-    lines: usize,
-    at: usize,
-    same: bool,
 }
 
 // Puts bytes into a path from an offset on.
@@ -48,7 +23,19 @@ fn append(path: &mut [u8], at: usize, bytes: &[u8])
     }
 }
 
-// Reads a file to its end. One that fills the buffer may go on behind it: it is not read whole.
+// Puts an ending behind the path's first n bytes; where it ends. A name without room for it stays as it is.
+fn with_ending(path: &mut [u8], n: usize, ending: &[u8]) -> usize
+    requires { ⌜ n ≤ length (now path) ⌝ }
+    ensures { λ r. ⌜ r ≤ length (now (path .exit)) ⌝ }
+{
+    if path.len() - n < ending.len() {
+        return n;
+    }
+    append(path, n, ending);
+    n + ending.len()
+}
+
+// Reads an open file to its end. One that fills the buffer may go on behind it: it is not read whole.
 fn read_all(fd: i32, text: &mut [u8]) -> Got
     ensures { λ r. ⌜ r .length ≤ length (now (text .exit)) ⌝ }
 {
@@ -76,154 +63,136 @@ fn read_all(fd: i32, text: &mut [u8]) -> Got
     }
 }
 
-// Reads the file whose name is the path's first n bytes and an ending.
-fn load(path: &mut [u8], n: usize, ending: &[u8], text: &mut [u8]) -> Got
-    requires { ⌜ n ≤ length (now path) ⌝ }
+fn load(name: &[u8], text: &mut [u8]) -> Got
     ensures { λ r. ⌜ r .length ≤ length (now (text .exit)) ⌝ }
 {
-    if path.len() - n < ending.len() {
-        return Got {
-            length: 0,
-            whole: false,
-        };
-    }
-    append(path, n, ending);
-    let end = n + ending.len();
-    let fd = os::open_read(&path[0..end]);
-    if fd < 0 {
-        return Got {
-            length: 0,
-            whole: false,
-        };
-    }
+    let fd = os::open_read(name);
     let got = read_all(fd, text);
     libc::close(fd);
     got
 }
 
-// Where the answers stop being as a piece of output that should stand at an offset of them.
-fn agree(answers: &[u8], at: usize, piece: &[u8]) -> usize
-    requires { ⌜ at ≤ length (now answers) ⌝ }
-    ensures { λ r. ⌜ (at ≤ r) × (r ≤ length (now (answers .entry))) ⌝ }
+// How many lines a text has: as many as line feeds, and one more if something follows the last.
+fn line_count(text: &[u8]) -> usize
+    ensures { λ r. ⌜ r ≤ length (now (text .entry)) ⌝ }
 {
-    let mut end = at;
+    let mut lines = 0;
+    let mut open = 0;
     let mut i = 0;
-    while i < piece.len() {
-        if end == answers.len() {
-            return end;
+    while i < text.len() {
+        if text[i] == b'\n' {
+            lines += 1;
+            open = 0;
+        } else {
+            open = 1;
         }
-        if answers[end] != piece[i] {
-            return end;
-        }
-        end += 1;
         i += 1;
     }
-    end
+    lines + open
 }
 
-// Plays whole lines as long as the output has room, and compares what they answer.
-fn turn(events: &[u8], answers: &[u8], area: &mut [u8], p: Played, out: &mut [u8]) -> Played
-    requires { ⌜ (Fits (p .run) (now area)) × (p .read ≤ length (now events)) × (p .at ≤ length (now answers)) ⌝ }
-    ensures { λ r. ⌜ (p .read ≤ r .read) × (r .read ≤ length (now (events .entry)))
-        × (r .at ≤ length (now (answers .entry))) × (r .run .session .length ≤ 35852) ⌝ }
+// The sizes of the pieces that each file is read in.
+fn size_of(i: usize) -> usize
+    ensures { λ r. ⌜ (1 ≤ r) × (r ≤ 8192) ⌝ }
 {
-    let read = p.read;
-    let at = p.at;
-    let run = p.run;
-    let lines = play_lines(&events[read..], area, run, out);
-    let n = lines.written;
-    let end = agree(answers, at, &out[0..n]);
-    let next = lines.run;
-    Played {
-        run: next,
-        read: read + lines.read,
-        at: end,
-        same: end - at == n,
+    match i {
+        0 => 1,
+        1 => 7,
+        2 => 161,
+        3 => 162,
+        _ => 8192,
     }
 }
 
-// Plays all whole lines, or until their output is not as the answers have it.
-fn play_whole(events: &[u8], answers: &[u8], area: &mut [u8], out: &mut [u8]) -> Played
-    requires { ⌜ 35852 ≤ length (now area) ⌝ }
-    ensures { λ r. ⌜ (r .read ≤ length (now (events .entry))) × (r .at ≤ length (now (answers .entry)))
-        × (r .run .session .length ≤ 35852) ⌝ }
+fn all_played(ended: Ended) -> bool {
+    match ended {
+        Ended::Played => true,
+        _ => false,
+    }
+}
+
+// Plays the events by pieces of a size, on an area that holds anything, into the file `played`. The input is no longer
+// than what may be kept and a piece; the output is small, so that many pieces take several turns.
+fn play_by(size: usize, events: &[u8]) -> bool
+    requires { ⌜ (1 ≤ size) × (size ≤ 8192) ⌝ }
 {
-    let run = Run::new();
-    let mut p = Played {
-        run,
-        read: 0,
-        at: 0,
-        same: true,
-    };
-    loop {
-        let next = turn(events, answers, area, p, out);
-        if !next.same {
-            return next;
+    let mut input = [0u8; 8353];
+    let mut area = [238u8; 35852];
+    let mut out = [0u8; 1024];
+    let from = os::open_read(events);
+    let to = os::open_overwrite(b"played");
+    let end = 161 + size;
+    let ended = stream::play(from, to, size, &mut input[0..end], &mut area, &mut out);
+    libc::close(from);
+    libc::close(to);
+    all_played(ended)
+}
+
+// Whether all was played and the file `played` holds the answers.
+fn as_expected(all: bool, answers: &[u8], text: &mut [u8]) -> bool {
+    if !all {
+        return false;
+    }
+    let got = load(b"played", text);
+    if !got.whole {
+        return false;
+    }
+    let n = got.length;
+    check::same(&text[0..n], answers)
+}
+
+// Plays the events by pieces of each size; the first size by which the answers are not as expected, or 0.
+fn play_sizes(events: &[u8], answers: &[u8], text: &mut [u8]) -> usize {
+    for i in 0..5 {
+        let size = size_of(i);
+        let all = play_by(size, events);
+        if !as_expected(all, answers, text) {
+            return size;
         }
-        if next.read == p.read {
-            return next;
-        }
-        p = next;
     }
+    0
 }
 
-// A rest without line feed is a line more.
-fn lines(played: usize, rest: usize) -> usize {
-    if rest == 0 {
-        return played;
-    }
-    if played >= 99999 {
-        return played;
-    }
-    played + 1
+// A pair that was read: where the name of its events ends, how many lines they are, how long the answers are, and
+// whether all was read.
+struct Pair {
+    end: usize,
+    lines: usize,
+    wanted: usize,
+    whole: bool,
 }
 
-// Plays a file on an area that may hold anything.
-fn play_file(events: &[u8], answers: &[u8], area: &mut [u8], out: &mut [u8]) -> Outcome
-    requires { ⌜ (35852 ≤ length (now area)) × (320 ≤ length (now out)) ⌝ }
+fn read_pair(path: &mut [u8], n: usize, answers: &mut [u8], text: &mut [u8]) -> Pair
+    requires { ⌜ n ≤ length (now path) ⌝ }
+    ensures { λ r. ⌜ (r .end ≤ length (now (path .exit))) × (r .wanted ≤ length (now (answers .exit))) ⌝ }
 {
-    let p = play_whole(events, answers, area, out);
-    let run = p.run;
-    let read = p.read;
-    let at = p.at;
-    let rest = events.len() - read;
-    let lines = lines(run.played, rest);
-    if !p.same {
-        return Outcome {
-            lines,
-            at,
-            same: false,
-        };
-    }
-    let n = play_last(&events[read..], area, run, out);
-    let end = agree(answers, at, &out[0..n]);
-    if end - at < n {
-        return Outcome {
-            lines,
-            at: end,
-            same: false,
-        };
-    }
-    let same = end == answers.len();
-    Outcome {
+    let last = with_ending(path, n, b".answers");
+    let a = load(&path[0..last], answers);
+    let end = with_ending(path, n, b".events");
+    let e = load(&path[0..end], text);
+    let events = e.length;
+    let lines = line_count(&text[0..events]);
+    let whole = if e.whole { a.whole } else { false };
+    Pair {
+        end,
         lines,
-        at: end,
-        same,
+        wanted: a.length,
+        whole,
     }
 }
 
 // The rest of a file's line; answers how many files differ: 0 or 1.
-fn report(o: Outcome) -> usize
+fn report(lines: usize, size: usize) -> usize
     ensures { λ r. ⌜ r ≤ 1 ⌝ }
 {
-    if o.same {
+    if size == 0 {
         io::write_all(1, b": ");
-        io::print_decimal(1, o.lines as u64);
+        io::print_decimal(1, lines as u64);
         io::write_all(1, b" lines, as expected\n");
         return 0;
     }
-    io::write_all(1, b": differs from the expected answers at byte ");
-    io::print_decimal(1, o.at as u64);
+    io::write_all(1, b": not as expected by pieces of ");
+    io::print_decimal(1, size as u64);
     io::write_all(1, b"\n");
     1
 }
@@ -236,43 +205,20 @@ fn report_unread() -> usize
     1
 }
 
-// Reads NAME.events and NAME.answers.
-fn load_pair(path: &mut [u8], n: usize, events: &mut [u8], answers: &mut [u8]) -> Pair
-    requires { ⌜ n ≤ length (now path) ⌝ }
-    ensures { λ r. ⌜ (r .given ≤ length (now (events .exit))) × (r .wanted ≤ length (now (answers .exit))) ⌝ }
-{
-    let e = load(path, n, b".events", events);
-    let a = load(path, n, b".answers", answers);
-    let whole = if e.whole { a.whole } else { false };
-    Pair {
-        given: e.length,
-        wanted: a.length,
-        whole,
-    }
-}
-
 // Plays the pair that an argument names; answers 0 or 1.
-fn replay(
-    i: usize,
-    path: &mut [u8],
-    events: &mut [u8],
-    answers: &mut [u8],
-    area: &mut [u8],
-    out: &mut [u8],
-) -> usize
-    requires { ⌜ (35852 ≤ length (now area)) × (320 ≤ length (now out)) ⌝ }
+fn replay(i: usize, path: &mut [u8], answers: &mut [u8], text: &mut [u8]) -> usize
     ensures { λ r. ⌜ r ≤ 1 ⌝ }
 {
     let n = os::arg(i, path);
     io::write_all(1, &path[0..n]);
-    let pair = load_pair(path, n, events, answers);
+    let pair = read_pair(path, n, answers, text);
     if !pair.whole {
         return report_unread();
     }
-    let given = pair.given;
+    let end = pair.end;
     let wanted = pair.wanted;
-    let o = play_file(&events[0..given], &answers[0..wanted], area, out);
-    report(o)
+    let size = play_sizes(&path[0..end], &answers[0..wanted], text);
+    report(pair.lines, size)
 }
 
 fn report_all(files: usize, differ: usize) {
@@ -282,32 +228,21 @@ fn report_all(files: usize, differ: usize) {
     io::write_all(1, b" differ\n");
 }
 
-fn replay_all(
-    path: &mut [u8],
-    events: &mut [u8],
-    answers: &mut [u8],
-    area: &mut [u8],
-    out: &mut [u8],
-)
-    requires { ⌜ (35852 ≤ length (now area)) × (320 ≤ length (now out)) ⌝ }
-{
+fn replay_all(path: &mut [u8], answers: &mut [u8], text: &mut [u8]) {
     let count = os::arg_count();
     let mut differ = 0;
     let mut i = 1;
     while i < count {
-        let more = replay(i, path, events, answers, area, out);
+        let more = replay(i, path, answers, text);
         differ += more;
         i += 1;
     }
     report_all(i - 1, differ);
 }
 
-// The output is small, so that most files take several turns.
 fn main() {
     let mut path = [0u8; 256];
-    let mut events = [0u8; 65536];
     let mut answers = [0u8; 65536];
-    let mut area = [0u8; 35852];
-    let mut out = [0u8; 1024];
-    replay_all(&mut path, &mut events, &mut answers, &mut area, &mut out);
+    let mut text = [0u8; 65536];
+    replay_all(&mut path, &mut answers, &mut text);
 }

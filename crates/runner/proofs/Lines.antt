@@ -1,17 +1,17 @@
 -- The lines of a text that is read piece by piece: a first line that is whole, a last line without a line feed, and
 -- a line that is too long to be kept.
 use Prim.Native.Nat.{ℕ, zero, suc, _+_, _≤_, _<_}
-use mathlib.Core.Path.{_≡_, refl, sym, _∙_, ap, ap₂}
-use mathlib.Core.Bool.{Bool, true, false, _&&_, cond}
-use mathlib.Core.List.{List, [], _∷_, _++_}
+use mathlib.Core.Path.{_≡_, refl, sym, _∙_, ap}
+use mathlib.Core.Bool.{Bool, true, false, cond}
+use mathlib.Core.List.{List, [], _∷_, _++_, append-nil}
 use native.Mathlib.Omega.{arith}
-use lib.Dec.{eqb, leb, ltb}
+use lib.Dec.{eqb, ltb}
 use borrow.Author.Tests.{lt-leb}
-use lib.ListN.{length, take, drop, getD, length-append, length-take}
-use Rattle.boards.proofs.Basics.{false-and, if-true, if-false}
+use lib.ListN.{length, take, length-append, length-take}
+use Rattle.boards.proofs.Basics.{false-and, if-false}
 use Rattle.text.specs.Fields.{line-feed, until, past}
-use Rattle.runner.specs.Pieces.{Unbroken}
-use Rattle.text.specs.Events.{Event, taken, by-letter, well-parted, Unreadable}
+use Rattle.runner.specs.Pieces.{Unbroken, Broken}
+use Rattle.text.specs.Events.{Event, taken, well-parted, Unreadable}
 use Rattle.text.specs.Rows.{rows-text}
 use Rattle.text.specs.Turns.{play}
 use Rattle.text.specs.Whole.{lines, grown, Run, output-from, line-text, next-run, most-lines}
@@ -19,7 +19,7 @@ use Rattle.text.specs.Whole.{lines, grown, Run, output-from, line-text, next-ru
 -- ---- lines
 
 -- a text with a line feed: its first line, and the lines of what follows
-pub first-line : (s t : List ℕ) → length (until line-feed s) < length s →
+pub first-line : (s t : List ℕ) → Broken s →
     lines (s ++ t) ≡ until line-feed s ∷ lines (past line-feed s ++ t)
 unfolding until past lines grown
 first-line [] t h = absurd (omega arith)
@@ -65,14 +65,10 @@ unbroken-lines c (d ∷ s) t u =
 pub last-line : (c : ℕ) (s : List ℕ) → Unbroken (c ∷ s) → lines (c ∷ s) ≡ (c ∷ s) ∷ []
 unfolding joined lines
 last-line c s u = ap lines (sym (append-nil (c ∷ s))) ∙ unbroken-lines c s [] u
-  where
-    append-nil : (l : List ℕ) → l ++ [] ≡ l
-    append-nil [] = refl
-    append-nil (x ∷ xs) = ap {B = List ℕ} (λ r. x ∷ r) (append-nil xs)
 
 -- ---- a line that is too long
 
-unbroken-take : (n : ℕ) (s : List ℕ) → Unbroken s → Unbroken (take n s)
+pub unbroken-take : (n : ℕ) (s : List ℕ) → Unbroken s → Unbroken (take n s)
 unfolding until
 unbroken-take zero s u = refl
 unbroken-take (suc n) [] u = refl
@@ -93,7 +89,8 @@ same-output r l m ls e =
     (λ (event : Event).
     let turn = play (r .player) event in
     cond (ltb (r .played) most-lines)
-    (rows-text (suc (r .played)) (turn .rows) ++ output-from (record { played = suc (r .played); player = turn .next }) ls)
+    (rows-text (suc (r .played)) (turn .rows)
+    ++ output-from (record { played = suc (r .played); player = turn .next }) ls)
     [])
     e
 
@@ -111,8 +108,11 @@ kept-enough r (c ∷ s) t u h =
 
     both : (l : List ℕ) → taken ((c ∷ s) ++ l) ≡ taken ((c ∷ take 160 s) ++ l)
     both l =
-        too-long ((c ∷ s) ++ l) (omega (arith, length-append (c ∷ s) l)) ∙ sym (too-long ((c ∷ take 160 s) ++ l) (long l))
+        too-long ((c ∷ s) ++ l) (omega (arith, length-append (c ∷ s) l))
+        ∙ sym (too-long ((c ∷ take 160 s) ++ l) (long l))
 
     same : (ls : List (List ℕ)) → output-from r (joined (c ∷ s) ls) ≡ output-from r (joined (c ∷ take 160 s) ls)
-    same [] = same-output r (c ∷ s) (c ∷ take 160 s) [] (too-long (c ∷ s) h ∙ sym (too-long (c ∷ take 160 s) (omega (arith, length-take 160 s))))
+    same [] =
+        same-output r (c ∷ s) (c ∷ take 160 s) []
+        (too-long (c ∷ s) h ∙ sym (too-long (c ∷ take 160 s) (omega (arith, length-take 160 s))))
     same (l ∷ ls) = same-output r ((c ∷ s) ++ l) ((c ∷ take 160 s) ++ l) ls (both l)

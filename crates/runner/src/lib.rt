@@ -1,5 +1,4 @@
-// Plays an input that is read piece by piece: all lines of a piece, what is kept of a line that is not finished, and
-// the last line.
+// Plays the whole lines of a piece of input.
 use events::take_apart;
 use fields::find;
 use player::play;
@@ -7,13 +6,13 @@ use turns::Session;
 use volatile::Record;
 ghost use mathlib.Core.Path.{_≡_};
 ghost use mathlib.Core.List.{[]};
-ghost use Prim.Native.Nat.{_+_, _-_, _≤_, _<_};
-ghost use lib.ListN.{length, take, drop};
-ghost use Rattle.text.specs.Whole.{start, lines, output-from};
-ghost use Rattle.runner.specs.Pieces.{run-of, Fits, Unbroken, Steps, Progresses, Stands-for};
+ghost use Prim.Native.Nat.{_+_, _≤_, _<_};
+ghost use lib.ListN.{length};
+ghost use Rattle.text.specs.Whole.{start};
+ghost use Rattle.runner.specs.Pieces.{run-of, Fits, Steps, Progresses};
 
 // The lines that a run takes at most.
-const MOST: usize = 99999;
+pub const MOST: usize = 99999;
 
 // The room that the output of one line takes at most.
 const ROOM: usize = 320;
@@ -24,16 +23,25 @@ pub struct Run {
     pub session: Session,
 }
 
+// Why the lines of a piece stop: no line feed is left in it, the output has no room for one more line, or all lines
+// that a run takes were played.
+pub enum Stop {
+    Unfinished,
+    Full,
+    Limit,
+}
+
 pub struct Stepped {
     pub run: Run,
     pub at: usize,
 }
 
-// The run after the lines of a piece, how much of the piece they are, and how much output they gave.
+// The run after the lines of a piece, how much of the piece they are, how much output they gave, and why they stopped.
 pub struct Progress {
     pub run: Run,
     pub read: usize,
     pub written: usize,
+    pub stop: Stop,
 }
 
 impl Run {
@@ -52,7 +60,7 @@ impl Run {
 }
 
 // One line; the buffer is for its bytes.
-fn play_line(
+pub fn play_line(
     line: &[u8],
     area: &mut [u8],
     run: Run,
@@ -98,6 +106,7 @@ pub fn play_lines(piece: &[u8], area: &mut [u8], run: Run, out: &mut [u8]) -> Pr
                 run: now,
                 read,
                 written,
+                stop: Stop::Unfinished,
             };
         }
         if out.len() - written < ROOM {
@@ -105,6 +114,7 @@ pub fn play_lines(piece: &[u8], area: &mut [u8], run: Run, out: &mut [u8]) -> Pr
                 run: now,
                 read,
                 written,
+                stop: Stop::Full,
             };
         }
         let step = play_line(&piece[read..end], area, now, &mut buffer, out, written);
@@ -116,49 +126,6 @@ pub fn play_lines(piece: &[u8], area: &mut [u8], run: Run, out: &mut [u8]) -> Pr
         run: now,
         read,
         written,
+        stop: Stop::Limit,
     }
-}
-
-// At the input's end what is left is a line, unless it is empty; how much output it gave.
-pub fn play_last(rest: &[u8], area: &mut [u8], run: Run, out: &mut [u8]) -> usize
-    requires { ⌜ (Fits run (now area)) × (320 ≤ length (now out)) ⌝ }
-    ensures { λ r. ⌜ (r ≤ length (now (out .exit))) × (Unbroken (now (rest .entry)) →
-        output-from (run-of run (now (area .entry))) (lines (now (rest .entry))) ≡ take r (now (out .exit))) ⌝ }
-{
-    if rest.len() == 0 {
-        return 0;
-    }
-    if run.played >= MOST {
-        return 0;
-    }
-    let mut buffer = [0u8; 80];
-    let step = play_line(rest, area, run, &mut buffer, out, 0);
-    step.at
-}
-
-// n bytes from an offset on are moved to the buffer's start.
-fn move_down(buffer: &mut [u8], from: usize, n: usize)
-    requires { ⌜ from + n ≤ length (now buffer) ⌝ }
-    ensures { λ _. ⌜ take n (now (buffer .exit)) ≡ take n (drop from (now (buffer .entry))) ⌝ }
-{
-    for i in 0..n {
-        let byte = buffer[from + i];
-        buffer[i] = byte;
-    }
-}
-
-// A line that is not finished, from an offset to the end: its first 161 characters, moved to the buffer's start,
-// stand for it, since a longer line can't be taken apart whatever follows.
-pub fn keep(buffer: &mut [u8], from: usize, end: usize) -> usize
-    requires { ⌜ (from ≤ end) × (end ≤ length (now buffer)) ⌝ }
-    ensures { λ r. ⌜ (r ≤ 161)
-        × (Stands-for (take r (now (buffer .exit))) (take (end - from) (drop from (now (buffer .entry))))) ⌝ }
-{
-    let rest = end - from;
-    if rest <= 161 {
-        move_down(buffer, from, rest);
-        return rest;
-    }
-    move_down(buffer, from, 161);
-    161
 }

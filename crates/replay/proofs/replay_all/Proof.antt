@@ -8,12 +8,12 @@ use Rattle.replay.proofs.replay_all.Statement.{statement}
 use Rattle.replay.proofs.replay_all.Tie as tie
 
 abbrev Inv-loop : tie.InvT-loop
-Inv-loop path₀ events₀ answers₀ area₀ out₀ count differ₀ i₀ path events answers area out differ i =
-    (length path ≡ length path₀) × (length events ≡ length events₀) × (length answers ≡ length answers₀)
-    × (length area ≡ length area₀) × (length out ≡ length out₀) × (1 ≤ i) × (differ ≤ i)
+Inv-loop path₀ answers₀ text₀ count differ₀ i₀ path answers text differ i =
+    (length path ≡ length path₀) × (length answers ≡ length answers₀) × (length text ≡ length text₀)
+    × (1 ≤ i) × (differ ≤ i)
 
 abbrev μ-loop : tie.MeasureT-loop
-μ-loop path₀ events₀ answers₀ area₀ out₀ count differ₀ i₀ path events answers area out differ i = count - i
+μ-loop path₀ answers₀ text₀ count differ₀ i₀ path answers text differ i = count - i
 
 arg-count-requires : tie.Need-arg-count-requires Inv-loop μ-loop
 arg-count-requires c κs = tt
@@ -22,7 +22,7 @@ loop-holds : tie.Need-loop-holds Inv-loop μ-loop
 loop-holds c = omega arith
 
 replay-requires : tie.Need-replay-requires Inv-loop μ-loop
-replay-requires c κs = search needs
+replay-requires c κs = tt
 
 add-differ : tie.Need-add-differ Inv-loop μ-loop
 add-differ c = omega arith
@@ -51,12 +51,6 @@ same-length-2 c = search needs
 same-length-3 : tie.Need-same-length-3 Inv-loop μ-loop
 same-length-3 c = search needs
 
-same-length-4 : tie.Need-same-length-4 Inv-loop μ-loop
-same-length-4 c = search needs
-
-same-length-5 : tie.Need-same-length-5 Inv-loop μ-loop
-same-length-5 c = search needs
-
 returns : tie.Need-returns Inv-loop μ-loop
 returns c = omega arith
 
@@ -78,6 +72,4 @@ replay-all-spec =
     same-length
     same-length-2
     same-length-3
-    same-length-4
-    same-length-5
     returns)

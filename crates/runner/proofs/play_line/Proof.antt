@@ -19,7 +19,9 @@ same-length : tie.Need-same-length
 same-length c = c .before .before .before .before .area .given
 
 same-length-2 : tie.Need-same-length-2
-same-length-2 c = c .before .before .before .before .before .before .before .before .before .before .before .before .buffer .given
+same-length-2 c =
+    let played = c .before .before .before .before .before .before in
+    played .before .before .before .before .before .before .buffer .given
 
 same-length-3 : tie.Need-same-length-3
 same-length-3 c = c .before .before .out .given

@@ -9,7 +9,7 @@ use Rattle.text.specs.Whole.{Run as Whole, next-run}
 use Rattle.turns.specs.Turned.{area-size}
 use Rattle.turns.proofs.Laws.{take-most}
 use Rattle.runner.specs.Pieces.{run-of, Output}
-use Rattle.runner.proofs.Pieces.{progressed}
+use Rattle.runner.proofs.Pieces.{none-left, one-left, progressed}
 use Rattle.runner.proofs.play_lines.Statement.{statement}
 use Rattle.runner.proofs.play_lines.Tie as tie
 
@@ -56,9 +56,14 @@ same-length-2 c = search needs
 
 returns : tie.Need-returns Inv-loop μ-loop
 returns c =
+    let found = c .before in
     let at = c .before .before .before .before .before .loop in
     record {
       output = at .inv .6;
+      stops = (
+        omega (arith, found .before .before .if1 .taken),
+        none-left _ (at .read) (found .find .result) (at .inv .2) (found .find .ensures) (c .if2 .taken),
+      );
       read = at .inv .2;
       written = omega (arith, at .inv .1, at .inv .3);
       fits = at .inv .4;
@@ -75,9 +80,16 @@ same-length-4 c = search needs
 
 returns-2 : tie.Need-returns-2 Inv-loop μ-loop
 returns-2 c =
-    let at = c .before .before .before .before .before .before .loop in
+    let whole = c .before in
+    let found = whole .before in
+    let at = found .before .before .before .before .loop in
     record {
       output = at .inv .6;
+      stops = (
+        omega (arith, found .before .before .if1 .taken),
+        one-left _ (at .read) (found .find .result) (at .inv .2) (found .find .ensures) (whole .if2 .left),
+        omega (arith, c .if3 .taken, at .inv .1, at .inv .3),
+      );
       read = at .inv .2;
       written = omega (arith, at .inv .1, at .inv .3);
       fits = at .inv .4;
@@ -103,7 +115,7 @@ play-line-requires c κs =
     let at = head .loop in
     let start = head .before .before .before .before in (
       record { room = omega (arith, start .pre .room, at .inv .0); fits = at .inv .4 },
-      found .before .before .if1 .taken,
+      omega (arith, found .before .before .if1 .taken),
       omega (arith, at .inv .5),
       omega (arith, roomy .if3 .left, at .inv .1, at .inv .3),
     )
@@ -134,9 +146,9 @@ loop-again c =
       omega (arith, step .text .room, at .inv .1),
       step .fits,
       search needs,
-      progressed (run-of (start .args .run) (start .args .area .now)) (run-of (at .now) (at .area)) (start .args .piece .now)
-          (at .read) (found .find .result) (at .inv .2) (found .find .ensures) (whole .if2 .left) (found .before .before .if1 .taken)
-          (at .inv .6) step,
+      progressed (run-of (start .args .run) (start .args .area .now)) (run-of (at .now) (at .area))
+          (start .args .piece .now) (at .read) (found .find .result) (at .inv .2) (found .find .ensures)
+          (whole .if2 .left) (omega (arith, found .before .before .if1 .taken)) (at .inv .6) step,
     )
 
 same-length-5 : tie.Need-same-length-5 Inv-loop μ-loop
@@ -150,6 +162,7 @@ returns-3 c =
     let at = c .before .before .loop in
     record {
       output = at .inv .6;
+      stops = omega (arith, c .if1 .left);
       read = at .inv .2;
       written = omega (arith, at .inv .1, at .inv .3);
       fits = at .inv .4;
