@@ -3,6 +3,7 @@ use crate::records::same_record;
 use crate::text::at_most;
 use protocol::Answer;
 use volatile::Record;
+ghost use Prim.Native.Nat.{_≤_};
 
 // What a buffer is filled with before a call.
 pub const FILL: u8 = 238;
@@ -48,16 +49,25 @@ pub fn changes(image: &[u8], before: &[u8], next: Record, old: Record) {
     record(next, old)
 }
 
-fn wide(x: u8) -> u64 {
-    x as u64
+pub fn wide(x: u8) -> usize
+    ensures { λ r. ⌜ r ≤ 255 ⌝ }
+{
+    x as usize
 }
 
 pub fn bytes(s: &[u8]) {
     let mut i = 0;
     while i < s.len() {
-        io::print_hex(1, wide(s[i]), 2);
+        io::print_hex(1, wide(s[i]) as u64, 2);
         i += 1;
     }
+}
+
+// The bytes behind what stands before them, to the end of the line.
+pub fn bytes_line(before: &[u8], s: &[u8]) {
+    io::write_all(1, before);
+    bytes(s);
+    io::write_all(1, b"\n");
 }
 
 fn untouched(s: &[u8]) -> bool {

@@ -2,6 +2,7 @@
 use crate::area::BEFORE;
 use crate::area::CUT;
 use crate::area::OTHER;
+use crate::area::PART;
 use crate::area::copy;
 use bench::calls::call;
 use bench::tell;
@@ -48,17 +49,40 @@ fn counted(t: Tally, as_before: bool, as_after: bool) -> Tally {
     next
 }
 
-// Power-up cut at k and, if it was, made again; whether the first was done.
+// Power-up cut at k and, if it was, made again; whether the first was done or refused.
 fn power_up_twice(image: &mut [u8], k: usize) -> bool {
     let first = recovery::power_up(image, k);
-    if first.answer.status == 0 {
+    if first.answer.status != 9 {
         return true;
     }
     recovery::power_up(image, ENOUGH);
     false
 }
 
-// Whether the image has the recovery state of the other and nothing is left to recover.
+// Whether the current bank is the recovery bank: B x S bytes each, past the header and B tags.
+fn banks_agree(image: &[u8]) -> bool {
+    if image.len() < 12 {
+        return false;
+    }
+    let power = image[5];
+    if power > 6 {
+        return false;
+    }
+    let blocks = tell::wide(image[6]) + 256 * tell::wide(image[7]);
+    let cells = blocks << power;
+    if cells > PART {
+        return false;
+    }
+    let current = 12 + blocks;
+    let recovery = current + cells;
+    let end = recovery + cells;
+    if end > image.len() {
+        return false;
+    }
+    check::same(&image[current..recovery], &image[recovery..end])
+}
+
+// Whether the image has the recovery state of the other, nothing is left to recover, and its banks agree.
 fn recovered(area: &mut [u8], other: usize, n: usize) -> bool
     requires { ⌜ (144000 ≤ length (now area)) × (other ≤ 108000) × (n ≤ 36000) ⌝ }
 {
@@ -66,12 +90,15 @@ fn recovered(area: &mut [u8], other: usize, n: usize) -> bool
     if again.answer.status != 0 {
         return false;
     }
+    if !banks_agree(&area[0..n]) {
+        return false;
+    }
     let end = other + n;
     let answer = inspect::same(&area[0..n], &area[other..end]);
     answer.same
 }
 
-// From the cut image, power-ups cut at 0, 1, .. until one is done.
+// From the cut image, power-ups cut at 0, 1, .. until one is done or refused.
 fn every_power_up(area: &mut [u8], n: usize) -> Tally
     requires { ⌜ (144000 ≤ length (now area)) × (n ≤ 36000) ⌝ }
 {
@@ -95,7 +122,8 @@ fn every_power_up(area: &mut [u8], n: usize) -> Tally
     t
 }
 
-fn tell_cut(answer: Answer, t: Tally) {
+// The answer and the tally, and with `shown` the image that the cut call left.
+fn tell_cut(answer: Answer, t: Tally, image: &[u8], shown: bool) {
     tell::answer(answer);
     io::write_all(1, b", powered up: before");
     tell::number(t.before as u64);
@@ -103,50 +131,49 @@ fn tell_cut(answer: Answer, t: Tally) {
     tell::number(t.after as u64);
     io::write_all(1, b", neither");
     tell::number(t.neither as u64);
+    if shown {
+        tell::bytes_line(b", image ", image);
+        return;
+    }
     io::write_all(1, b"\n");
 }
 
-// The call cut at k from the image before it, and its power-ups; whether it was cut.
-fn one_cut(area: &mut [u8], n: usize, state: Record, r: Request, k: usize) -> bool
+// The call cut at k, and its power-ups; whether it was cut. The image ends as it began.
+fn one_cut(area: &mut [u8], n: usize, state: Record, r: Request, k: usize, shown: bool) -> bool
     requires { ⌜ (144000 ≤ length (now area)) × (n ≤ 36000) ⌝ }
 {
-    copy(area, BEFORE, 0, n);
     let reply = cut_call(&mut area[0..n], state, r, k);
     let answer = reply.answer;
     copy(area, 0, CUT, n);
     let t = every_power_up(area, n);
-    tell_cut(answer, t);
+    let end = CUT + n;
+    tell_cut(answer, t, &area[CUT..end], shown);
+    copy(area, BEFORE, 0, n);
     answer.status == 9
 }
 
-// The image as it was, and the image after the call, uncut and powered up, to their parts.
-fn uncut(area: &mut [u8], n: usize, state: Record, r: Request)
+// From the image before it, the call cut at 0, 1, .. until it is not cut.
+fn cut_on(area: &mut [u8], n: usize, state: Record, r: Request, shown: bool)
     requires { ⌜ (144000 ≤ length (now area)) × (n ≤ 36000) ⌝ }
 {
-    copy(area, 0, BEFORE, n);
-    cut_call(&mut area[0..n], state, r, ENOUGH);
-    recovery::power_up(&mut area[0..n], ENOUGH);
-    copy(area, 0, OTHER, n);
-}
-
-// The call cut at 0, 1, .. until it is done.
-fn cut_on(area: &mut [u8], n: usize, state: Record, r: Request)
-    requires { ⌜ (144000 ≤ length (now area)) × (n ≤ 36000) ⌝ }
-{
+    copy(area, BEFORE, 0, n);
     let mut k = 0;
     while k < 1000 {
-        if !one_cut(area, n, state, r, k) {
+        if !one_cut(area, n, state, r, k, shown) {
             return;
         }
         k += 1;
     }
 }
 
-// The image ends as it began.
-pub fn every_cut(area: &mut [u8], n: usize, state: Record, r: Request)
+// The image before the call and the one after it, uncut and powered up, go to their parts; then the call is cut. The
+// image ends as it began.
+pub fn every_cut(area: &mut [u8], n: usize, state: Record, r: Request, shown: bool)
     requires { ⌜ (144000 ≤ length (now area)) × (n ≤ 36000) ⌝ }
 {
-    uncut(area, n, state, r);
-    cut_on(area, n, state, r);
-    copy(area, BEFORE, 0, n);
+    copy(area, 0, BEFORE, n);
+    cut_call(&mut area[0..n], state, r, ENOUGH);
+    recovery::power_up(&mut area[0..n], ENOUGH);
+    copy(area, 0, OTHER, n);
+    cut_on(area, n, state, r, shown);
 }

@@ -14,10 +14,12 @@ use volatile::Record;
 ghost use Prim.Native.Nat.{_≤_};
 ghost use lib.ListN.{length};
 
-// What stands between two requests: the record, and the length of the image that is lent.
+// What stands between two requests: the record, the length of the image that is lent, and whether the lines of a call
+// cut at every k end in the image.
 pub struct Bench {
     pub state: Record,
     pub length: usize,
+    pub shown: bool,
 }
 
 // A call, its answer, and what changed.
@@ -40,9 +42,7 @@ fn context_line(image: &[u8], board: usize) {
     let part = inspect::context(image, board, &mut status);
     io::write_all(1, b" :");
     tell::number(status as u64);
-    io::write_all(1, b" ");
-    tell::bytes(part);
-    io::write_all(1, b"\n");
+    tell::bytes_line(b" ", part);
 }
 
 fn same_line(image: &[u8], other: &[u8]) {
@@ -66,6 +66,10 @@ fn other_line(area: &mut [u8], n: usize, r: Request)
         same_line(&area[0..n], &area[OTHER..end]);
         return;
     }
+    if r.letter == b'D' {
+        tell::bytes_line(b" : ", &area[0..n]);
+        return;
+    }
     io::write_all(1, b"\n");
     if r.letter == b'M' {
         copy(area, 0, OTHER, PART);
@@ -87,18 +91,27 @@ fn is_call(letter: u8) -> bool {
     }
 }
 
-// The length lent for a line: F and L name one.
-fn lent(r: Request, length: usize) -> usize {
+// What a line changes before it is played: F, f and L the length that is lent, I whether images are shown.
+fn set_by(r: Request, bench: Bench) -> Bench {
+    let mut next = bench;
     let letter = r.letter;
     match letter {
-        b'F' => r.e,
-        b'L' => r.k,
-        _ => length,
+        b'F' | b'f' => {
+            next.length = r.e;
+        }
+        b'L' => {
+            next.length = r.k;
+        }
+        b'I' => {
+            next.shown = r.k == 1;
+        }
+        _ => {}
     }
+    next
 }
 
 // Plays a request; the record after it.
-fn play_request(area: &mut [u8], n: usize, r: Request, state: Record) -> Record
+fn play_request(area: &mut [u8], n: usize, r: Request, state: Record, shown: bool) -> Record
     requires { ⌜ (144000 ≤ length (now area)) × (n ≤ 36000) ⌝ }
 {
     if is_call(r.letter) {
@@ -108,7 +121,7 @@ fn play_request(area: &mut [u8], n: usize, r: Request, state: Record) -> Record
         io::write_all(1, b"\n");
         let mut asked = r;
         asked.letter = r.letter % 32 + 64;
-        every_cut(area, n, state, asked);
+        every_cut(area, n, state, asked, shown);
         return state;
     }
     other_line(area, n, r);
@@ -123,9 +136,10 @@ pub fn play_line(line: &[u8], area: &mut [u8], bench: Bench) -> Bench
 {
     io::write_all(1, line);
     let r = request_of(line);
-    let length = lent(r, bench.length);
-    let n = at_most(length, PART);
-    let old = bench.state;
-    let state = play_request(area, n, r, old);
-    Bench { state, length }
+    let mut next = set_by(r, bench);
+    let n = at_most(next.length, PART);
+    let old = next.state;
+    let state = play_request(area, n, r, old, next.shown);
+    next.state = state;
+    next
 }

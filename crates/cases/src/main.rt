@@ -7,8 +7,13 @@
 //   A k board n first       acknowledge
 //   X k board               fault
 //   U k                     power-up
-//   w, c, a, x              as W, C, A, X with k = 0, 1, .. until it is done; each is powered up, and that
-//                           power-up is cut at every k too and made again; the image stays as it was
+//   w, c, a, x, f           as W, C, A, X, F with k = 0, 1, .. until the call is not cut, each from the same image,
+//                           which stays as it was. What a call left is powered up with k = 0, 1, .. until the
+//                           power-up is not cut; a cut one is made again. Its line counts what came out: the
+//                           recovery state from before the call, that after it, or neither; neither also where a
+//                           further power-up with k = 0 is not done, or the current bank is not the recovery bank
+//   I n                     1: each such line ends in the image that its call left, before any power-up; 0: no more
+//   D 0                     the bytes of the image
 //   R 0 board cell n room   read into a buffer of that length
 //   K 0 board               context
 //   S 0                     same: the image and the remembered one
@@ -31,7 +36,11 @@ fn play(text: &[u8], area: &mut [u8])
     requires { ⌜ 144000 ≤ length (now area) ⌝ }
 {
     let state = Record::off();
-    let mut bench = Bench { state, length: 0 };
+    let mut bench = Bench {
+        state,
+        length: 0,
+        shown: false,
+    };
     let mut at = 0;
     while at < text.len() {
         let end = line_end(text, at);

@@ -8,10 +8,13 @@ use Rattle.cases.proofs.cuts.cut_on.Statement.{statement}
 use Rattle.cases.proofs.cuts.cut_on.Tie as tie
 
 abbrev Inv-loop : tie.InvT-loop
-Inv-loop area₀ n state r k₀ area k = length area ≡ length area₀
+Inv-loop area₀ n state r shown k₀ area k = length area ≡ length area₀
 
 abbrev μ-loop : tie.MeasureT-loop
-μ-loop area₀ n state r k₀ area k = 1000 - k
+μ-loop area₀ n state r shown k₀ area k = 1000 - k
+
+copy-requires : tie.Need-copy-requires Inv-loop μ-loop
+copy-requires c κs = omega arith
 
 loop-holds : tie.Need-loop-holds Inv-loop μ-loop
 loop-holds c = omega arith
@@ -46,6 +49,7 @@ cut-on-spec =
     (tie.spec
     Inv-loop
     μ-loop
+    copy-requires
     loop-holds
     one-cut-requires
     same-length
