@@ -2,12 +2,14 @@
 //! generators of event files. Written from document 01 alone.
 #![forbid(unsafe_code)]
 
+pub mod cases;
 pub mod check;
 pub mod generate;
 pub mod ledger;
 pub mod lines;
 pub mod mixes;
 pub mod module;
+pub mod pieces;
 pub mod player;
 pub mod random;
 pub mod replay;

@@ -21,18 +21,19 @@ pub struct Shape {
 }
 
 impl Shape {
-    pub fn new(boards: u16, size: u16, blocks: u16, context: u16) -> Option<Shape> {
+    /// The numbers may be any.
+    pub fn new(boards: usize, size: usize, blocks: usize, context: usize) -> Option<Shape> {
         let allowed = (1..=16).contains(&boards)
             && size.is_power_of_two()
             && size <= 64
             && (1..=1024).contains(&blocks)
-            && u32::from(blocks) * u32::from(size) <= 16_384
+            && blocks * size <= 16_384
             && context <= 64;
         allowed.then(|| Shape {
-            boards: boards.into(),
+            boards,
             power: size.trailing_zeros() as u8,
-            blocks: blocks.into(),
-            context: context.into(),
+            blocks,
+            context,
         })
     }
 
@@ -295,21 +296,20 @@ pub fn header(image: &[u8], decision: u8) -> Option<Shape> {
         return None;
     }
     let blocks = u16::from_le_bytes([head[6], head[7]]);
-    let shape = Shape::new(head[4].into(), 1 << head[5], blocks, head[8].into())?;
+    let shape = Shape::new(head[4].into(), 1 << head[5], blocks.into(), head[8].into())?;
     (image.len() == shape.length()).then_some(shape)
 }
 
 /// The tests that begin every call by a board: 11, 12, 1.
-fn begin(image: &[u8], record: &Record, board: u16) -> Result<(Shape, usize), u8> {
+fn begin(image: &[u8], record: &Record, board: usize) -> Result<Shape, u8> {
     let shape = header(image, 0).ok_or(11)?;
     if !record.sound(&shape) {
         return Err(12);
     }
-    let board = usize::from(board);
     if board >= shape.boards {
         return Err(1);
     }
-    Ok((shape, board))
+    Ok(shape)
 }
 
 /// Refusal 2, else the block that the access lies in.
@@ -317,6 +317,7 @@ fn place(shape: &Shape, cell: usize, n: usize) -> Result<usize, u8> {
     let block = cell >> shape.power;
     let inside = n >= 1
         && n <= shape.size()
+        && cell < shape.cells()
         && cell + n <= shape.cells()
         && (cell + n - 1) >> shape.power == block;
     if inside {
@@ -343,9 +344,9 @@ fn other_writer(
 pub fn read(
     image: &[u8],
     record: Record,
-    board: u16,
-    cell: u16,
-    n: u16,
+    board: usize,
+    cell: usize,
+    n: usize,
     answer: &mut [u8],
 ) -> (Answer, Record) {
     match try_read(image, record, board, cell, n, answer) {
@@ -357,13 +358,12 @@ pub fn read(
 fn try_read(
     image: &[u8],
     record: Record,
-    board: u16,
-    cell: u16,
-    n: u16,
+    board: usize,
+    cell: usize,
+    n: usize,
     answer: &mut [u8],
 ) -> Result<Record, u8> {
-    let (shape, board) = begin(image, &record, board)?;
-    let (cell, n) = (usize::from(cell), usize::from(n));
+    let shape = begin(image, &record, board)?;
     let block = place(&shape, cell, n)?;
     let room = answer.get_mut(..n).ok_or(5)?;
     let other = other_writer(image, &shape, board, block)?;
@@ -381,8 +381,8 @@ fn try_read(
 pub fn write(
     image: &mut [u8],
     record: Record,
-    board: u16,
-    cell: u16,
+    board: usize,
+    cell: usize,
     bytes: &[u8],
     k: u32,
 ) -> (Answer, Record) {
@@ -393,13 +393,12 @@ pub fn write(
 fn try_write(
     image: &mut [u8],
     record: Record,
-    board: u16,
-    cell: u16,
+    board: usize,
+    cell: usize,
     bytes: &[u8],
     k: u32,
 ) -> Result<(Answer, Record), u8> {
-    let (shape, board) = begin(image, &record, board)?;
-    let cell = usize::from(cell);
+    let shape = begin(image, &record, board)?;
     let block = place(&shape, cell, bytes.len())?;
     let other = other_writer(image, &shape, board, block)?;
     let touched = other.map_or(0, |j| 1_u16 << j) | 1 << board;
@@ -433,7 +432,7 @@ fn write_stores(
 pub fn start(
     image: &mut [u8],
     record: Record,
-    board: u16,
+    board: usize,
     context: &[u8],
     k: u32,
 ) -> (Answer, Record) {
@@ -444,11 +443,11 @@ pub fn start(
 fn try_start(
     image: &mut [u8],
     record: Record,
-    board: u16,
+    board: usize,
     context: &[u8],
     k: u32,
 ) -> Result<(Answer, Record), u8> {
-    let (shape, board) = begin(image, &record, board)?;
+    let shape = begin(image, &record, board)?;
     if context.len() != shape.context {
         return Err(3);
     }
@@ -467,7 +466,7 @@ fn try_start(
 pub fn acknowledge(
     image: &mut [u8],
     record: Record,
-    board: u16,
+    board: usize,
     context: &[u8],
     k: u32,
 ) -> (Answer, Record) {
@@ -478,11 +477,11 @@ pub fn acknowledge(
 fn try_acknowledge(
     image: &mut [u8],
     record: Record,
-    board: u16,
+    board: usize,
     context: &[u8],
     k: u32,
 ) -> Result<(Answer, Record), u8> {
-    let (shape, board) = begin(image, &record, board)?;
+    let shape = begin(image, &record, board)?;
     if context.len() != shape.context {
         return Err(3);
     }
@@ -527,10 +526,10 @@ fn commit(
     stores.answer(result, members, next)
 }
 
-pub fn fault(image: &mut [u8], record: Record, board: u16, k: u32) -> (Answer, Record) {
+pub fn fault(image: &mut [u8], record: Record, board: usize, k: u32) -> (Answer, Record) {
     match begin(image, &record, board) {
         Err(code) => (Answer::refused(code), record),
-        Ok((shape, board)) => {
+        Ok(shape) => {
             let group = record.fault_group(board);
             let mut stores = Stores::new(image, k);
             let result = stores.roll_back(&shape, group);
@@ -566,7 +565,7 @@ fn try_power_up(image: &mut [u8], k: u32) -> Result<(Answer, Record), u8> {
 }
 
 /// `numbers` are P, S, B and K.
-pub fn format(image: &mut [u8], record: Record, numbers: [u16; 4], k: u32) -> (Answer, Record) {
+pub fn format(image: &mut [u8], record: Record, numbers: [usize; 4], k: u32) -> (Answer, Record) {
     let [boards, size, blocks, context] = numbers;
     let Some(shape) = Shape::new(boards, size, blocks, context) else {
         return (Answer::refused(4), record);
@@ -605,4 +604,15 @@ pub fn context(image: &[u8], board: usize) -> Result<&[u8], u8> {
     }
     let at = shape.recovery_context(board);
     Ok(&image[at..at + shape.context])
+}
+
+/// Whether two images have the same shape and recovery state.
+pub fn same(first: &[u8], second: &[u8]) -> Result<bool, u8> {
+    let shape = header(first, 0).ok_or(11)?;
+    let other = header(second, 0).ok_or(11)?;
+    let contexts = shape.recovery_context(0);
+    Ok(shape == other
+        && first[shape.recovery()..][..shape.cells()]
+            == second[shape.recovery()..][..shape.cells()]
+        && first[contexts..] == second[contexts..])
 }

@@ -61,31 +61,36 @@ impl Player {
                 (Answer::default(), self.record)
             }
             Some(Event::Format(numbers)) => {
-                let [boards, size, blocks, context] = *numbers;
+                let numbers = numbers.map(usize::from);
+                let [boards, size, blocks, context] = numbers;
                 if let Some(shape) = Shape::new(boards, size, blocks, context) {
                     image.clear();
                     image.resize(shape.length(), 0);
                 }
-                module::format(image, self.record, *numbers, k)
+                module::format(image, self.record, numbers, k)
             }
             Some(Event::Read { board, cell, n }) => {
+                let [board, cell, n] = [*board, *cell, *n].map(usize::from);
                 let (answer, next) =
-                    module::read(image, self.record, *board, *cell, *n, &mut self.bytes);
+                    module::read(image, self.record, board, cell, n, &mut self.bytes);
                 if answer.code == module::DONE {
-                    self.count = usize::from(*n);
+                    self.count = n;
                 }
                 (answer, next)
             }
             Some(Event::Write { board, cell, bytes }) => {
-                module::write(image, self.record, *board, *cell, bytes, k)
+                let [board, cell] = [*board, *cell].map(usize::from);
+                module::write(image, self.record, board, cell, bytes, k)
             }
             Some(Event::Start { board, bytes }) => {
-                module::start(image, self.record, *board, bytes, k)
+                module::start(image, self.record, usize::from(*board), bytes, k)
             }
             Some(Event::Acknowledge { board, bytes }) => {
-                module::acknowledge(image, self.record, *board, bytes, k)
+                module::acknowledge(image, self.record, usize::from(*board), bytes, k)
             }
-            Some(Event::Fault { board }) => module::fault(image, self.record, *board, k),
+            Some(Event::Fault { board }) => {
+                module::fault(image, self.record, usize::from(*board), k)
+            }
             Some(Event::PowerUp) => module::power_up(image, k),
         };
         self.record = next;

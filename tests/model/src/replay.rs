@@ -3,7 +3,7 @@
 
 use crate::generate;
 use crate::lines::{self, Room, LONGEST};
-use crate::player::Player;
+use crate::player::{Player, MOST_LINES};
 
 /// Name, what the file reaches, the event lines.
 pub struct Replay {
@@ -143,6 +143,58 @@ pub fn all() -> Vec<Replay> {
     large(&mut add);
     generated(&mut add);
     files
+}
+
+/// The files in the order of their names, in which the gate plays them.
+fn sorted() -> Vec<Replay> {
+    let mut files = all();
+    files.sort_by_key(|file| file.name);
+    files
+}
+
+/// The arguments of the gate's program `replay`: a name a line.
+pub fn arguments() -> String {
+    sorted()
+        .iter()
+        .map(|file| format!("{}\n", file.name))
+        .collect()
+}
+
+/// What the gate's program `replay` prints where no answer differs.
+pub fn report() -> String {
+    let files = sorted();
+    let mut text = String::new();
+    for file in &files {
+        let lines = file.events.split_inclusive(|byte| *byte == b'\n').count();
+        let played = lines.min(MOST_LINES as usize);
+        text += &format!("{}: {played} lines, as expected\n", file.name);
+    }
+    text + &format!("{} files, 0 differ\n", files.len())
+}
+
+/// The standard input of the gate's own run of `rsmrun`: several times what
+/// it reads at once, more answers to one piece than it holds, more than a
+/// thousand lines, and no last line feed.
+pub fn long_run() -> Vec<u8> {
+    let mut script = Script::default();
+    script.line("F,16,64,16,2");
+    script.line(format!("W,0,0,{}", run(1, 64)));
+    for _ in 0..150 {
+        script.line("R,0,0,64");
+    }
+    for i in 0..900 {
+        let board = i * 7 % 16;
+        let cell = i * 13 % 1024;
+        script.line(match i % 6 {
+            0 | 3 => format!("W,{board},{cell},{:02X}", i % 256),
+            1 | 4 => format!("R,{board},{cell},1"),
+            2 => format!("C,{board},{}", run(i, 2)),
+            _ => format!("X,{board}"),
+        });
+    }
+    script.lines("W,3,128,0A0B0C0D R,3,128,4");
+    script.0.pop();
+    script.0
 }
 
 type Add<'a> = &'a mut dyn FnMut(&'static str, &'static str, &dyn Fn(&mut Script));
@@ -1091,6 +1143,32 @@ fn slips(add: Add) {
         &|s| {
             s.lines("F,4,1,4,0 W,0,0,01 R,1,0,1 R,2,0,1 W,1,1,02 W,2,2,03 C,0, X,0 R,3,1,1 R,3,2,1 C,1, C,2, R,3,1,1");
             s.lines("W,0,0,04 R,1,0,1 W,1,1,05 R,2,1,1 W,2,2,06 C,1, A,0, X,0 X,1 C,2, R,3,2,1");
+        },
+    );
+    add(
+        "highest_board_commits",
+        "board P - 1 commits while board 0 depends on it: no later group has both",
+        &|s| {
+            for boards in 2..=16 {
+                let high = boards - 1;
+                // Alone; then a fault of P - 1, or a commit of 0.
+                let alone = format!("F,{boards},1,3,1 W,{high},0,01 R,0,0,1 C,{high},A1");
+                s.lines(format!("{alone} W,0,1,02 W,{high},2,03 X,{high} R,0,1,1"));
+                s.lines(format!("{alone} W,0,1,02 W,{high},2,03 C,0,A0 X,{high}"));
+                if boards == 2 {
+                    continue;
+                }
+                // With board 1, which acknowledges; 0 reads before the start
+                // or while the commit is open.
+                let both = format!("F,{boards},1,3,1 W,1,1,01 R,{high},1,1 W,{high},0,02");
+                for open in [
+                    format!("{both} R,0,0,1 C,{high},A2 A,1,A1"),
+                    format!("{both} C,{high},A2 R,0,0,1 A,1,A1"),
+                ] {
+                    s.lines(format!("{open} W,{high},2,03 X,{high} X,1 X,0"));
+                    s.lines(format!("{open} W,0,2,03 C,0,A0 R,{high},2,1 X,0"));
+                }
+            }
         },
     );
     add(

@@ -1,10 +1,11 @@
 //! `fuzz RSMRUN COUNT SEED` compares a program with the model on generated
-//! files and checks the ledger on each. The script `tests/fuzz` calls it.
-use model::{check, generate, player, random::Random};
+//! files and checks the ledger on each. Half of the files go through a pipe,
+//! in random pieces. The script `tests/fuzz` calls it.
+use model::{check, generate, pieces, player, random::Random};
 use std::fs::{self, File};
-use std::io::{self, Read};
+use std::io::{self, Read, Write};
 use std::path::Path;
-use std::process::{Command, ExitCode, Stdio};
+use std::process::{ChildStdin, Command, ExitCode, Stdio};
 use std::sync::mpsc;
 use std::time::Duration;
 use std::{env, thread};
@@ -16,7 +17,7 @@ fn main() -> ExitCode {
     let arguments: Vec<String> = env::args().skip(1).collect();
     let (program, count, seed): (&str, u64, u64) = match &arguments[..] {
         [program, count, seed] => match (count.parse(), seed.parse()) {
-            (Ok(count), Ok(seed)) => (program, count, seed),
+            (Ok(count), Ok(seed)) if count > 0 => (program, count, seed),
             _ => return usage(),
         },
         _ => return usage(),
@@ -36,7 +37,7 @@ fn main() -> ExitCode {
 }
 
 fn usage() -> ExitCode {
-    eprintln!("use: fuzz RSMRUN COUNT SEED");
+    eprintln!("use: fuzz RSMRUN COUNT SEED, COUNT from 1");
     ExitCode::from(2)
 }
 
@@ -52,34 +53,34 @@ fn compare(program: &str, count: u64, seed: u64, folder: &Path) -> Result<u64, S
             0 => too_many_lines(),
             _ => generate::events(file_seed, Random::new(!file_seed).within(30, 400)),
         };
+        let pieces = match i % 2 {
+            0 => None,
+            _ => Some(pieces::choose(&mut Random::new(file_seed), events.len())),
+        };
         let expected = player::answers(&events);
         let ledger = check::file(&events);
-        let name = folder.join("file.events");
-        fs::write(&name, &events).map_err(failed)?;
-        let got = answers_of(program, &name).map_err(|what| {
-            format!(
-                "file {i}: {program} {what}; events kept in {}",
-                name.display()
-            )
-        })?;
+        let keep = |name: &str, bytes: &[u8]| fs::write(folder.join(name), bytes).map_err(failed);
+        let (given, lengths) = match &pieces {
+            None => ("", String::new()),
+            Some(pieces) => (" given in pieces,", format!("{pieces:?}\n")),
+        };
+        let kept = format!("file {i},{given} kept in {}", folder.display());
+        keep("file.events", &events)?;
+        keep("file.pieces", lengths.as_bytes())?;
+        let got = match pieces {
+            None => answers_of(program, Input::File(&folder.join("file.events"))),
+            Some(pieces) => answers_of(program, Input::Pipe(events.clone(), pieces)),
+        };
+        let got = got.map_err(|what| format!("{kept}\n{program} {what}"))?;
         if got != expected {
-            fs::write(folder.join("file.expected"), &expected).map_err(failed)?;
-            fs::write(folder.join("file.got"), &got).map_err(failed)?;
+            keep("file.expected", &expected)?;
+            keep("file.got", &got)?;
             return Err(format!(
-                "file {i}, kept with both answers in {}\n{}",
-                folder.display(),
+                "{kept}\n{}",
                 first_difference(&events, &expected, &got)
             ));
         }
-        match ledger {
-            Ok(played) => lines += u64::from(played),
-            Err(what) => {
-                return Err(format!(
-                    "file {i}, kept as {}: ledger: {what}",
-                    name.display()
-                ))
-            }
-        }
+        lines += u64::from(ledger.map_err(|what| format!("{kept}\nledger: {what}"))?);
     }
     Ok(lines)
 }
@@ -92,15 +93,30 @@ fn too_many_lines() -> Vec<u8> {
     events
 }
 
-/// Plays a file by the program; its output is read in a thread so that a
-/// program that does not end can be given up.
-fn answers_of(program: &str, events: &Path) -> Result<Vec<u8>, String> {
+/// What the program's standard input is.
+enum Input<'a> {
+    File(&'a Path),
+    /// The bytes, and the lengths of the pieces in which they are written.
+    Pipe(Vec<u8>, Vec<usize>),
+}
+
+/// Plays a file by the program. Its input is written and its output read in
+/// threads, so that a program that does not end can be given up.
+fn answers_of(program: &str, input: Input) -> Result<Vec<u8>, String> {
     let failed = |error: io::Error| error.to_string();
+    let stdin = match input {
+        Input::File(name) => Stdio::from(File::open(name).map_err(failed)?),
+        Input::Pipe(..) => Stdio::piped(),
+    };
     let mut child = Command::new(program)
-        .stdin(Stdio::from(File::open(events).map_err(failed)?))
+        .stdin(stdin)
         .stdout(Stdio::piped())
         .spawn()
         .map_err(failed)?;
+    if let (Input::Pipe(bytes, pieces), Some(pipe)) = (input, child.stdin.take()) {
+        let number = child.id();
+        thread::spawn(move || feed(pipe, &bytes, &pieces, number));
+    }
     let mut output = child.stdout.take().ok_or("has no output")?;
     let (sender, receiver) = mpsc::channel();
     thread::spawn(move || {
@@ -118,6 +134,34 @@ fn answers_of(program: &str, events: &Path) -> Result<Vec<u8>, String> {
         return Err(format!("ended with {status}"));
     }
     result.map_err(failed)
+}
+
+/// Writes the bytes piece by piece and closes the pipe. A program that reads
+/// no more is no error here: its answers tell.
+fn feed(mut pipe: ChildStdin, bytes: &[u8], pieces: &[usize], reader: u32) {
+    let mut rest = bytes;
+    for length in pieces {
+        let (piece, after) = rest.split_at(*length);
+        if pipe.write_all(piece).is_err() {
+            return;
+        }
+        until_asleep(reader);
+        rest = after;
+    }
+}
+
+/// Waits, but not for long, until the process sleeps: then it has read what
+/// was written and its next read ends with the next piece. Where the system
+/// does not tell (in /proc), a read may take several pieces at once.
+fn until_asleep(process: u32) {
+    let name = format!("/proc/{process}/stat");
+    for _ in 0..1000 {
+        // The state is the letter after the name in parentheses.
+        match fs::read_to_string(&name) {
+            Ok(text) if !text.contains(") S ") => thread::yield_now(),
+            _ => return,
+        }
+    }
 }
 
 /// The first answers that differ and the event line that they answer.

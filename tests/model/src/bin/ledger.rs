@@ -1,27 +1,26 @@
-//! `ledger FILE` plays an event file by the model and checks every call
+//! `ledger FILE..` plays event files by the model and checks every call
 //! against the ledger: prints `ok`, or the first difference and exits with 1.
 use std::{env, fs, process::ExitCode};
 
 fn main() -> ExitCode {
-    let Some(name) = env::args().nth(1) else {
-        eprintln!("use: ledger FILE");
+    let names: Vec<String> = env::args().skip(1).collect();
+    if names.is_empty() {
+        eprintln!("use: ledger FILE..");
         return ExitCode::from(2);
-    };
-    let input = match fs::read(&name) {
-        Ok(input) => input,
-        Err(error) => {
-            eprintln!("{name}: {error}");
-            return ExitCode::from(2);
-        }
-    };
-    match model::check::file(&input) {
-        Ok(_) => {
-            println!("ok");
-            ExitCode::SUCCESS
-        }
-        Err(difference) => {
-            println!("{difference}");
-            ExitCode::FAILURE
+    }
+    for name in names {
+        let input = match fs::read(&name) {
+            Ok(input) => input,
+            Err(error) => {
+                eprintln!("{name}: {error}");
+                return ExitCode::from(2);
+            }
+        };
+        if let Err(difference) = model::check::file(&input) {
+            println!("{name}: {difference}");
+            return ExitCode::FAILURE;
         }
     }
+    println!("ok");
+    ExitCode::SUCCESS
 }

@@ -1,12 +1,14 @@
-//! `replay_files OUTDIR` writes the replay files, NAME.events and
-//! NAME.answers, into the folder; `replay_files --table` prints the table of
-//! the README.
+//! `replay_files FOLDER` writes what the gate's program `replay` needs:
+//! data/NAME.events and data/NAME.answers, args and stdout.
+//! `replay_files --table` prints the table of the README, `replay_files
+//! --run` the input of the gate's own run of `rsmrun`.
 use model::{player, replay};
-use std::{env, fs, io, path::Path};
+use std::io::{self, Write};
+use std::{env, fs, path::Path};
 
 fn main() -> io::Result<()> {
     let Some(place) = env::args().nth(1) else {
-        eprintln!("use: replay_files OUTDIR, or replay_files --table");
+        eprintln!("use: replay_files FOLDER, --table or --run");
         std::process::exit(2);
     };
     if place == "--table" {
@@ -16,12 +18,17 @@ fn main() -> io::Result<()> {
         }
         return Ok(());
     }
-    let folder = Path::new(&place);
-    fs::create_dir_all(folder)?;
-    for file in replay::all() {
-        fs::write(folder.join(format!("{}.events", file.name)), &file.events)?;
-        let answers = player::answers(&file.events);
-        fs::write(folder.join(format!("{}.answers", file.name)), answers)?;
+    if place == "--run" {
+        return io::stdout().write_all(&replay::long_run());
     }
-    Ok(())
+    let folder = Path::new(&place);
+    let data = folder.join("data");
+    fs::create_dir_all(&data)?;
+    for file in replay::all() {
+        fs::write(data.join(format!("{}.events", file.name)), &file.events)?;
+        let answers = player::answers(&file.events);
+        fs::write(data.join(format!("{}.answers", file.name)), answers)?;
+    }
+    fs::write(folder.join("args"), replay::arguments())?;
+    fs::write(folder.join("stdout"), replay::report())
 }
