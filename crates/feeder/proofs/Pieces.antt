@@ -99,9 +99,9 @@ unfolding until
 kept-first input = (omega arith, omega arith, refl)
 
 -- what is kept of a line that is not finished
-pub kept-unfinished : {stop : Stop} (held : ℕ) (input : List ℕ) → stop ≡ Unfinished → Kept stop held input →
+pub kept-line : {stop : Stop} (held : ℕ) (input : List ℕ) → stop ≡ Unfinished → Kept stop held input →
     Kept Unfinished held input
-kept-unfinished held input e k = subst (λ s. Kept s held input) e k
+kept-line held input e k = subst (λ s. Kept s held input) e k
 
 -- a part that ends within the first `end` of a list
 part-within : (n from end : ℕ) (l : List ℕ) → from + n ≤ end → take n (drop from (take end l)) ≡ take n (drop from l)

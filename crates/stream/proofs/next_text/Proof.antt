@@ -2,7 +2,7 @@
 use mathlib.Core.Path.{refl}
 use native.Mathlib.Omega.{arith}
 use borrow.Author.Needs.{needs}
-use Rattle.feeder.proofs.Pieces.{kept-unfinished}
+use Rattle.feeder.proofs.Pieces.{kept-line}
 use Rattle.stream.proofs.Texts.{same-end, no-end, held-full, held-limit, over-unbroken}
 use Rattle.stream.proofs.next_text.Statement.{statement}
 use Rattle.stream.proofs.next_text.Tie as tie
@@ -14,7 +14,7 @@ read-behind-requires : tie.Need-read-behind-requires
 read-behind-requires c κs =
     let start = c .before .before .before .before in
     let args = start .args in
-    let held = kept-unfinished (args .held) (args .input .now) (c .before .enum-told .given .1) (start .pre .1) in
+    let held = kept-line (args .held) (args .input .now) (c .before .enum-told .given .1) (start .pre .1) in
     omega (arith, start .pre .0, held .0)
 
 enum-told-2 : tie.Need-enum-told-2
@@ -32,7 +32,7 @@ returns c =
     let told = read .before .before in
     let start = told .before .before .before in
     let args = start .args in
-    let held = kept-unfinished (args .held) (args .input .now) (told .enum-told .given .1) (start .pre .1) in
+    let held = kept-line (args .held) (args .input .now) (told .enum-told .given .1) (start .pre .1) in
     record {
       within = read .read-behind .ensures .within;
       over = rw (read .read-behind .ensures .same) (over-unbroken (read .read-behind .result) _ (held .2));
