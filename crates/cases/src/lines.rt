@@ -14,10 +14,14 @@ use volatile::Record;
 ghost use Prim.Native.Nat.{_≤_};
 ghost use lib.ListN.{length};
 
-// What stands between two requests: the record, the length of the image that is lent, and whether the lines of a call
-// cut at every k end in the image.
+// What stands between two requests: the record, and what lines have set.
 pub struct Bench {
     pub state: Record,
+    pub settings: Settings,
+}
+
+// The length of the image that is lent, and whether the lines of a call cut at every k end in the image.
+pub struct Settings {
     pub length: usize,
     pub shown: bool,
 }
@@ -91,9 +95,9 @@ fn is_call(letter: u8) -> bool {
     }
 }
 
-// What a line changes before it is played: F, f and L the length that is lent, I whether images are shown.
-fn set_by(r: Request, bench: Bench) -> Bench {
-    let mut next = bench;
+// What a line sets before it is played: F, f and L the length that is lent, I whether images are shown.
+fn set_by(r: Request, before: Settings) -> Settings {
+    let mut next = before;
     let letter = r.letter;
     match letter {
         b'F' | b'f' => {
@@ -136,10 +140,10 @@ pub fn play_line(line: &[u8], area: &mut [u8], bench: Bench) -> Bench
 {
     io::write_all(1, line);
     let r = request_of(line);
-    let mut next = set_by(r, bench);
-    let n = at_most(next.length, PART);
-    let old = next.state;
-    let state = play_request(area, n, r, old, next.shown);
-    next.state = state;
-    next
+    let before = bench.settings;
+    let settings = set_by(r, before);
+    let n = at_most(settings.length, PART);
+    let old = bench.state;
+    let state = play_request(area, n, r, old, settings.shown);
+    Bench { state, settings }
 }

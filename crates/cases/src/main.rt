@@ -28,6 +28,7 @@ mod lines;
 use bench::text::after;
 use bench::text::line_end;
 use lines::Bench;
+use lines::Settings;
 use volatile::Record;
 ghost use Prim.Native.Nat.{_≤_};
 ghost use lib.ListN.{length};
@@ -36,11 +37,11 @@ fn play(text: &[u8], area: &mut [u8])
     requires { ⌜ 144000 ≤ length (now area) ⌝ }
 {
     let state = Record::off();
-    let mut bench = Bench {
-        state,
+    let settings = Settings {
         length: 0,
         shown: false,
     };
+    let mut bench = Bench { state, settings };
     let mut at = 0;
     while at < text.len() {
         let end = line_end(text, at);

@@ -1,6 +1,6 @@
 // Plays the event file of each pair that the arguments name, read in pieces of several sizes, and compares what is
 // answered with the stored answers. NAME stands for NAME.events and NAME.answers, in the folder that the program is run
-// in; what is answered goes through a file of that folder.
+// in; what is answered goes through a file of that folder. A pair that can't be read is not as expected.
 use stream::Ended;
 ghost use Prim.Native.Nat.{_+_, _≤_};
 ghost use lib.ListN.{length};
@@ -128,57 +128,58 @@ fn play_by(size: usize, events: &[u8]) -> bool
     all_played(ended)
 }
 
-// Whether all was played and the file `played` holds the answers.
-fn as_expected(all: bool, answers: &[u8], text: &mut [u8]) -> bool {
+// Whether all was played and the file `played` holds what the file of answers holds.
+fn as_expected(all: bool, answers: &[u8]) -> bool {
     if !all {
         return false;
     }
-    let got = load(b"played", text);
-    if !got.whole {
+    let mut wanted = [0u8; 65536];
+    let mut text = [0u8; 65536];
+    let a = load(answers, &mut wanted);
+    let p = load(b"played", &mut text);
+    if !a.whole {
         return false;
     }
-    let n = got.length;
-    check::same(&text[0..n], answers)
+    if !p.whole {
+        return false;
+    }
+    let n = a.length;
+    let m = p.length;
+    check::same(&text[0..m], &wanted[0..n])
 }
 
-// Plays the events by pieces of each size; the first size by which the answers are not as expected, or 0.
-fn play_sizes(events: &[u8], answers: &[u8], text: &mut [u8]) -> usize {
+// Plays the events of a name by pieces of a size; whether the answers are as expected.
+fn play_name(path: &mut [u8], n: usize, size: usize) -> bool
+    requires { ⌜ (n ≤ length (now path)) × (1 ≤ size) × (size ≤ 8192) ⌝ }
+{
+    let end = with_ending(path, n, b".events");
+    let all = play_by(size, &path[0..end]);
+    let last = with_ending(path, n, b".answers");
+    as_expected(all, &path[0..last])
+}
+
+// Plays them by pieces of each size; the first size by which the answers are not as expected, or 0.
+fn play_sizes(path: &mut [u8], n: usize) -> usize
+    requires { ⌜ n ≤ length (now path) ⌝ }
+{
     for i in 0..5 {
         let size = size_of(i);
-        let all = play_by(size, events);
-        if !as_expected(all, answers, text) {
+        if !play_name(path, n, size) {
             return size;
         }
     }
     0
 }
 
-// A pair that was read: where the name of its events ends, how many lines they are, how long the answers are, and
-// whether all was read.
-struct Pair {
-    end: usize,
-    lines: usize,
-    wanted: usize,
-    whole: bool,
-}
-
-fn read_pair(path: &mut [u8], n: usize, answers: &mut [u8], text: &mut [u8]) -> Pair
+// How many lines the events of a name have.
+fn lines_of(path: &mut [u8], n: usize) -> usize
     requires { ⌜ n ≤ length (now path) ⌝ }
-    ensures { λ r. ⌜ (r .end ≤ length (now (path .exit))) × (r .wanted ≤ length (now (answers .exit))) ⌝ }
 {
-    let last = with_ending(path, n, b".answers");
-    let a = load(&path[0..last], answers);
+    let mut text = [0u8; 65536];
     let end = with_ending(path, n, b".events");
-    let e = load(&path[0..end], text);
-    let events = e.length;
-    let lines = line_count(&text[0..events]);
-    let whole = if e.whole { a.whole } else { false };
-    Pair {
-        end,
-        lines,
-        wanted: a.length,
-        whole,
-    }
+    let e = load(&path[0..end], &mut text);
+    let length = e.length;
+    line_count(&text[0..length])
 }
 
 // The rest of a file's line; answers how many files differ: 0 or 1.
@@ -197,28 +198,15 @@ fn report(lines: usize, size: usize) -> usize
     1
 }
 
-// A pair that can't be read counts as one that differs.
-fn report_unread() -> usize
-    ensures { λ r. ⌜ r ≤ 1 ⌝ }
-{
-    io::write_all(1, b": can't be read\n");
-    1
-}
-
 // Plays the pair that an argument names; answers 0 or 1.
-fn replay(i: usize, path: &mut [u8], answers: &mut [u8], text: &mut [u8]) -> usize
+fn replay(i: usize, path: &mut [u8]) -> usize
     ensures { λ r. ⌜ r ≤ 1 ⌝ }
 {
     let n = os::arg(i, path);
     io::write_all(1, &path[0..n]);
-    let pair = read_pair(path, n, answers, text);
-    if !pair.whole {
-        return report_unread();
-    }
-    let end = pair.end;
-    let wanted = pair.wanted;
-    let size = play_sizes(&path[0..end], &answers[0..wanted], text);
-    report(pair.lines, size)
+    let lines = lines_of(path, n);
+    let size = play_sizes(path, n);
+    report(lines, size)
 }
 
 fn report_all(files: usize, differ: usize) {
@@ -228,21 +216,15 @@ fn report_all(files: usize, differ: usize) {
     io::write_all(1, b" differ\n");
 }
 
-fn replay_all(path: &mut [u8], answers: &mut [u8], text: &mut [u8]) {
+fn main() {
+    let mut path = [0u8; 256];
     let count = os::arg_count();
     let mut differ = 0;
     let mut i = 1;
     while i < count {
-        let more = replay(i, path, answers, text);
+        let more = replay(i, &mut path);
         differ += more;
         i += 1;
     }
     report_all(i - 1, differ);
-}
-
-fn main() {
-    let mut path = [0u8; 256];
-    let mut answers = [0u8; 65536];
-    let mut text = [0u8; 65536];
-    replay_all(&mut path, &mut answers, &mut text);
 }

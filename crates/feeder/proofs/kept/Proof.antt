@@ -1,18 +1,18 @@
 -- `kept` meets its contract, case by case.
-use borrow.Author.Needs.{needs}
+use native.Mathlib.Omega.{arith}
 use borrow.Author.Tests.{lt-ltb, le-ltb}
 use Rattle.feeder.specs.Feeding.{kept-length}
 use Rattle.feeder.proofs.kept.Statement.{statement}
 use Rattle.feeder.proofs.kept.Tie as tie
 
 enum-told : tie.Need-enum-told
-enum-told c = search needs
+enum-told c = omega arith
 
 enum-told-2 : tie.Need-enum-told-2
-enum-told-2 c = search needs
+enum-told-2 c = omega arith
 
 enum-told-3 : tie.Need-enum-told-3
-enum-told-3 c = search needs
+enum-told-3 c = omega arith
 
 returns : tie.Need-returns
 unfolding kept-length

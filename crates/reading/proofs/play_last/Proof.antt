@@ -6,7 +6,6 @@ use Rattle.digits.proofs.Laws.{appends-length}
 use Rattle.runner.specs.Pieces.{run-of}
 use Rattle.runner.proofs.Pieces.{exhausted}
 use Rattle.reading.proofs.Last.{nothing-left, last-played}
-use borrow.Author.Needs.{needs}
 use Rattle.reading.proofs.play_last.Statement.{statement}
 use Rattle.reading.proofs.play_last.Tie as tie
 
@@ -25,7 +24,10 @@ slice-aggregate-play-line : tie.Need-slice-aggregate-play-line
 slice-aggregate-play-line c = omega arith
 
 play-line-requires : tie.Need-play-line-requires
-play-line-requires c κs = search needs
+play-line-requires c κs =
+    let other = c .before .before .before in
+    let start = other .before .before .before .before .before .before in
+    (start .pre .1, omega (arith, other .if2 .left), omega arith, start .pre .2)
 
 same-length : tie.Need-same-length
 same-length c = c .before .before .before .before .area .given

@@ -2,16 +2,15 @@
 use mathlib.Core.Path.{subst}
 use native.Mathlib.Omega.{arith}
 use denote.Ref.{now}
-use borrow.Author.Needs.{needs}
 use Rattle.reading.specs.Reading.{still-due, Over}
 use Rattle.reading.proofs.play_rest.Statement.{statement}
 use Rattle.reading.proofs.play_rest.Tie as tie
 
 enum-told : tie.Need-enum-told
-enum-told c = search needs
+enum-told c = omega arith
 
 enum-told-2 : tie.Need-enum-told-2
-enum-told-2 c = search needs
+enum-told-2 c = omega arith
 
 play-last-requires : tie.Need-play-last-requires
 play-last-requires c κs =
@@ -21,17 +20,17 @@ play-last-requires c κs =
     (subst (λ got. Over got rest) (told .enum-told2 .given .1) (start .pre .0), start .pre .1, start .pre .2)
 
 enum-told-3 : tie.Need-enum-told-3
-enum-told-3 c = search needs
+enum-told-3 c = omega arith
 
 returns : tie.Need-returns
 unfolding still-due
 returns c = record { output = rw (c .enum-told .given .1); written = omega arith }
 
 same-length : tie.Need-same-length
-same-length c = search needs
+same-length c = c .before .before .before .area .given
 
 same-length-2 : tie.Need-same-length-2
-same-length-2 c = search needs
+same-length-2 c = c .before .out .given
 
 returns-2 : tie.Need-returns-2
 unfolding still-due

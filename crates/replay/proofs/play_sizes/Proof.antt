@@ -8,10 +8,10 @@ use Rattle.replay.proofs.play_sizes.Statement.{statement}
 use Rattle.replay.proofs.play_sizes.Tie as tie
 
 abbrev Inv-loop : tie.InvT-loop
-Inv-loop events answers text₀ i₀ text i = (length text ≡ length text₀) × (i ≤ 5)
+Inv-loop path₀ n i₀ path i = (length path ≡ length path₀) × (i ≤ 5)
 
 abbrev μ-loop : tie.MeasureT-loop
-μ-loop events answers text₀ i₀ text i = 5 - i
+μ-loop path₀ n i₀ path i = 5 - i
 
 loop-holds : tie.Need-loop-holds Inv-loop μ-loop
 loop-holds c = (refl, omega arith)
@@ -19,11 +19,8 @@ loop-holds c = (refl, omega arith)
 size-of-requires : tie.Need-size-of-requires Inv-loop μ-loop
 size-of-requires c κs = tt
 
-play-by-requires : tie.Need-play-by-requires Inv-loop μ-loop
-play-by-requires c κs = c .size-of .ensures
-
-as-expected-requires : tie.Need-as-expected-requires Inv-loop μ-loop
-as-expected-requires c κs = tt
+play-name-requires : tie.Need-play-name-requires Inv-loop μ-loop
+play-name-requires c κs = search needs
 
 same-length : tie.Need-same-length Inv-loop μ-loop
 same-length c = search needs
@@ -54,8 +51,7 @@ play-sizes-spec =
     μ-loop
     loop-holds
     size-of-requires
-    play-by-requires
-    as-expected-requires
+    play-name-requires
     same-length
     returns
     add-i

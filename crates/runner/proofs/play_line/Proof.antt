@@ -2,7 +2,6 @@
 use denote.Ref.{now}
 use Rattle.runner.proofs.Pieces.{stepped}
 use native.Mathlib.Omega.{arith}
-use borrow.Author.Needs.{needs}
 use Rattle.runner.proofs.play_line.Statement.{statement}
 use Rattle.runner.proofs.play_line.Tie as tie
 
@@ -13,7 +12,13 @@ add-number : tie.Need-add-number
 add-number c = omega arith
 
 play-requires : tie.Need-play-requires
-play-requires c κs = search needs
+play-requires c κs =
+    let known = c .before .before .before .before .before .before in
+    let taken = known .before in
+    let start = taken .before .before .before .before .before .before in (
+      record { room = start .pre .0 .room; fits = start .pre .0 .fits; line = start .pre .3 },
+      omega (arith, taken .take-apart .ensures .1, start .pre .2, known .buffer .given),
+    )
 
 same-length : tie.Need-same-length
 same-length c = c .before .before .before .before .area .given

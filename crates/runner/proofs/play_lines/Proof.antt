@@ -1,8 +1,7 @@
 -- `play_lines` meets its contract: what the lines played so far gave is written.
 use Prim.Native.Nat.{_-_, _≤_}
-use mathlib.Core.Path.{_≡_, refl, ap}
+use mathlib.Core.Path.{_≡_, refl, _∙_, ap}
 use native.Mathlib.Omega.{arith}
-use borrow.Author.Needs.{needs}
 use lib.ListN.{length, take, drop}
 use Rattle.fields.proofs.Laws.{until-fits}
 use Rattle.text.specs.Whole.{Run as Whole, next-run}
@@ -49,10 +48,10 @@ add-end c =
     omega (arith, until-fits 10 rest, take-most (length piece - at .read) (drop (at .read) piece), c .find .ensures)
 
 same-length : tie.Need-same-length Inv-loop μ-loop
-same-length c = search needs
+same-length c = c .before .before .before .before .before .loop .inv .0
 
 same-length-2 : tie.Need-same-length-2 Inv-loop μ-loop
-same-length-2 c = search needs
+same-length-2 c = c .before .before .before .before .before .loop .inv .1
 
 returns : tie.Need-returns Inv-loop μ-loop
 returns c =
@@ -73,10 +72,10 @@ sub-if3 : tie.Need-sub-if3 Inv-loop μ-loop
 sub-if3 c = omega arith
 
 same-length-3 : tie.Need-same-length-3 Inv-loop μ-loop
-same-length-3 c = search needs
+same-length-3 c = c .before .before .before .before .before .before .loop .inv .0
 
 same-length-4 : tie.Need-same-length-4 Inv-loop μ-loop
-same-length-4 c = search needs
+same-length-4 c = c .before .before .before .before .before .before .loop .inv .1
 
 returns-2 : tie.Need-returns-2 Inv-loop μ-loop
 returns-2 c =
@@ -140,22 +139,22 @@ loop-again c =
     let at = head .loop in
     let start = head .before .before .before .before in
     let step = played .play-line .ensures in (
-      search needs,
-      search needs,
+      c .before .before .before .before .before .area .given ∙ at .inv .0,
+      c .before .before .out .given ∙ at .inv .1,
       omega (arith, whole .if2 .left),
       omega (arith, step .text .room, at .inv .1),
       step .fits,
-      search needs,
+      c .before .before .before .buffer2 .given,
       progressed (run-of (start .args .run) (start .args .area .now)) (run-of (at .now) (at .area))
           (start .args .piece .now) (at .read) (found .find .result) (at .inv .2) (found .find .ensures)
           (whole .if2 .left) (omega (arith, found .before .before .if1 .taken)) (at .inv .6) step,
     )
 
 same-length-5 : tie.Need-same-length-5 Inv-loop μ-loop
-same-length-5 c = search needs
+same-length-5 c = c .before .before .loop .inv .0
 
 same-length-6 : tie.Need-same-length-6 Inv-loop μ-loop
-same-length-6 c = search needs
+same-length-6 c = c .before .before .loop .inv .1
 
 returns-3 : tie.Need-returns-3 Inv-loop μ-loop
 returns-3 c =

@@ -1,14 +1,13 @@
 -- `next_text` meets its contract, case by case.
 use mathlib.Core.Path.{refl}
 use native.Mathlib.Omega.{arith}
-use borrow.Author.Needs.{needs}
 use Rattle.feeder.proofs.Pieces.{kept-line}
 use Rattle.stream.proofs.Texts.{same-end, no-end, held-full, held-limit, over-unbroken}
 use Rattle.stream.proofs.next_text.Statement.{statement}
 use Rattle.stream.proofs.next_text.Tie as tie
 
 enum-told : tie.Need-enum-told
-enum-told c = search needs
+enum-told c = omega arith
 
 read-behind-requires : tie.Need-read-behind-requires
 read-behind-requires c κs =
@@ -18,13 +17,13 @@ read-behind-requires c κs =
     omega (arith, start .pre .0, held .0)
 
 enum-told-2 : tie.Need-enum-told-2
-enum-told-2 c = search needs
+enum-told-2 c = omega arith
 
 enum-told-3 : tie.Need-enum-told-3
-enum-told-3 c = search needs
+enum-told-3 c = omega arith
 
 same-length : tie.Need-same-length
-same-length c = search needs
+same-length c = c .before .input .given
 
 returns : tie.Need-returns
 returns c =

@@ -3,7 +3,6 @@ use Prim.Native.Nat.{_+_, _-_, _≤_}
 use mathlib.Core.Path.{sym, _∙_}
 use native.Mathlib.Omega.{arith}
 use lib.ListN.{length}
-use borrow.Author.Needs.{needs}
 use borrow.Rule.Slice.PartMut.{take-put}
 use Rattle.stream.proofs.Texts.{read-most}
 use Rattle.stream.proofs.read_behind.Statement.{statement}
@@ -13,31 +12,31 @@ add-end : tie.Need-add-end
 add-end c = omega arith
 
 sub-read : tie.Need-sub-read
-sub-read c = search needs
+sub-read c = omega arith
 
 part-read-start : tie.Need-part-read-start
-part-read-start c = search needs
+part-read-start c = omega arith
 
 part-read-end : tie.Need-part-read-end
-part-read-end c = search needs
+part-read-end c = omega arith
 
 read-requires : tie.Need-read-requires
-read-requires c κs = search needs
+read-requires c κs = tt
 
 errno-requires : tie.Need-errno-requires
-errno-requires c κs = search needs
+errno-requires c κs = tt
 
 sub-count : tie.Need-sub-count
-sub-count c = search needs
+sub-count c = omega arith
 
 part-count-start : tie.Need-part-count-start
-part-count-start c = search needs
+part-count-start c = omega arith
 
 part-count-end : tie.Need-part-count-end
-part-count-end c = search needs
+part-count-end c = omega arith
 
 count-requires : tie.Need-count-requires
-count-requires c κs = search needs
+count-requires c κs = tt
 
 add-meaning-of : tie.Need-add-meaning-of
 add-meaning-of c = omega (arith, c .count .ensures .0 .0)
@@ -46,7 +45,7 @@ meaning-of-requires : tie.Need-meaning-of-requires
 meaning-of-requires c κs = tt
 
 same-length : tie.Need-same-length
-same-length c = search needs
+same-length c = c .before .before .before .before .before .before .input .given .1
 
 returns : tie.Need-returns
 returns c =

@@ -1,25 +1,25 @@
--- `replay_all` ends: it takes a turn for each argument.
+-- `main` ends: it takes a turn for each argument.
 use Prim.Native.Nat.{_-_, _≤_}
 use mathlib.Core.Path.{_≡_}
 use native.Mathlib.Omega.{arith}
-use borrow.Author.Needs.{needs}
 use lib.ListN.{length}
-use Rattle.replay.proofs.replay_all.Statement.{statement}
-use Rattle.replay.proofs.replay_all.Tie as tie
+use Rattle.replay.proofs.main.Statement.{statement}
+use Rattle.replay.proofs.main.Tie as tie
 
 abbrev Inv-loop : tie.InvT-loop
-Inv-loop path₀ answers₀ text₀ count differ₀ i₀ path answers text differ i =
-    (length path ≡ length path₀) × (length answers ≡ length answers₀) × (length text ≡ length text₀)
-    × (1 ≤ i) × (differ ≤ i)
+Inv-loop path₀ count differ₀ i₀ path differ i = (length path ≡ 256) × (1 ≤ i) × (differ ≤ i)
 
 abbrev μ-loop : tie.MeasureT-loop
-μ-loop path₀ answers₀ text₀ count differ₀ i₀ path answers text differ i = count - i
+μ-loop path₀ count differ₀ i₀ path differ i = count - i
 
 arg-count-requires : tie.Need-arg-count-requires Inv-loop μ-loop
 arg-count-requires c κs = tt
 
 loop-holds : tie.Need-loop-holds Inv-loop μ-loop
 loop-holds c = omega arith
+
+slice-aggregate-replay : tie.Need-slice-aggregate-replay Inv-loop μ-loop
+slice-aggregate-replay c = omega arith
 
 replay-requires : tie.Need-replay-requires Inv-loop μ-loop
 replay-requires c κs = tt
@@ -42,26 +42,18 @@ sub-report-all c = omega arith
 report-all-requires : tie.Need-report-all-requires Inv-loop μ-loop
 report-all-requires c κs = tt
 
-same-length : tie.Need-same-length Inv-loop μ-loop
-same-length c = search needs
-
-same-length-2 : tie.Need-same-length-2 Inv-loop μ-loop
-same-length-2 c = search needs
-
-same-length-3 : tie.Need-same-length-3 Inv-loop μ-loop
-same-length-3 c = search needs
-
 returns : tie.Need-returns Inv-loop μ-loop
-returns c = omega arith
+returns c = tt
 
-pub replay-all-spec : {M : Type 1} → statement M
-replay-all-spec =
+pub main-spec : {M : Type 1} → statement M
+main-spec =
     tie.close
     (tie.spec
     Inv-loop
     μ-loop
     arg-count-requires
     loop-holds
+    slice-aggregate-replay
     replay-requires
     add-differ
     add-i
@@ -69,7 +61,4 @@ replay-all-spec =
     loop-again
     sub-report-all
     report-all-requires
-    same-length
-    same-length-2
-    same-length-3
     returns)
