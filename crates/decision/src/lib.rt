@@ -53,10 +53,7 @@ pub fn give(
         (now (image .entry)) a (now (image .exit))) ⌝ }
 {
     let at = tentative_at(s) + i * s.context;
-    let whole = Budget {
-        left: k,
-        cut: false,
-    };
+    let whole = Budget::new(k);
     let given = put_all(image, at, context, whole);
     let g = group.members;
     let open = r.commit_of(i as u8);

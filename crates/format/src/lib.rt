@@ -75,10 +75,7 @@ pub fn format(image: &mut [u8], s: Shape, k: usize, state: Record) -> Reply
     if image.len() != total(s) {
         return refusal(5, state);
     }
-    let budget = Budget {
-        left: k,
-        cut: false,
-    };
+    let budget = Budget::new(k);
     let left = lay_out(image, s, budget);
     finish(k, left, false, 0, next)
 }

@@ -144,6 +144,11 @@ module _ {ss : List Store} {b r : Budget} {x y : List ℕ} (m : Makes ss b x r y
   pub makes-well : WellBudget b → WellBudget r
   makes-well w = subst⁻¹ WellBudget (m .budget) (well-spent (length ss) b w)
 
+-- the stores of a call's budget that is told by an equation
+pub makes-begun : {ss : List Store} {k : ℕ} {b r : Budget} {x y : List ℕ} → b ≡ start k → Makes ss b x r y
+    → Makes ss (start k) x r y
+makes-begun {ss} {r = r} {x = x} {y = y} e m = subst (λ b. Makes ss b x r y) e m
+
 -- of a call's budget: how many stores were made, and whether one was refused
 module _ {ss : List Store} {k : ℕ} {r : Budget} {x y : List ℕ} (m : Makes ss (start k) x r y) where
   pub makes-count : length (take k ss) ≡ k - r .left

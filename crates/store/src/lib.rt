@@ -1,17 +1,30 @@
 // The one function that stores a byte of the image, and the leaves that store runs of bytes with it.
 pub mod answers;
 
+ghost use mathlib.Core.Path.{_≡_};
 ghost use mathlib.Core.List.{[], _∷_};
 ghost use Prim.Native.Nat.{_+_, _≤_, _<_};
 ghost use lib.ListN.{length, drop};
 ghost use mathlib.Core.Logic.{_⊎_};
-ghost use Rattle.store.specs.Budget.{Makes, one};
+ghost use Rattle.store.specs.Budget.{Makes, one, start};
 ghost use Rattle.store.specs.Runs.{put-stores, copy-stores, shifted};
 
 // How many stores are left, and whether one was refused for want of them.
 pub struct Budget {
     pub left: usize,
     pub cut: bool,
+}
+
+impl Budget {
+    // A call's budget of k stores as it begins.
+    pub fn new(k: usize) -> Budget
+        ensures { λ r. ⌜ r ≡ start k ⌝ }
+    {
+        Budget {
+            left: k,
+            cut: false,
+        }
+    }
 }
 
 // Stores a byte, if the budget allows one more store.

@@ -5,7 +5,7 @@ use native.Mathlib.Omega.{arith}
 use denote.Ref.{now}
 use Rattle.boards.specs.Rows.{emptied}
 use Rattle.layout.proofs.Laws.{bounded}
-use Rattle.store.proofs.Laws.{well-start, makes-length, makes-well}
+use Rattle.store.proofs.Laws.{well-start, makes-begun, makes-length, makes-well}
 use Rattle.store.proofs.Chains.{puts-length, puts-well}
 use Rattle.store.proofs.Ends.{left-most}
 use Rattle.decision.proofs.Laws.{context-room, given-puts, awaits, commits-all, left-all}
@@ -25,21 +25,26 @@ add-at c =
     let begin = c .before .before .before .before in
     omega (arith, context-room (begin .args .s) (begin .args .i) (begin .pre .0) (begin .pre .2))
 
+new-requires : tie.Need-new-requires
+new-requires c κs = tt
+
 put-all-requires : tie.Need-put-all-requires
 put-all-requires c κs =
-    let begin = c .before .before .before .before .before in
+    let begin = c .before .before .before .before .before .before in
     omega (arith, context-room (begin .args .s) (begin .args .i) (begin .pre .0) (begin .pre .2))
 
 cast-commit-of : tie.Need-cast-commit-of
 cast-commit-of c =
-    let begin = c .before .before .before .before .before .before .before .before in
+    let begin = c .before .before .before .before .before .before .before .before .before in
     omega (arith, bounded (begin .pre .0), begin .pre .2)
 
 commit-of-requires : tie.Need-commit-of-requires
 commit-of-requires c κs = tt
 
 finish-requires : tie.Need-finish-requires
-finish-requires c κs = left-most (c .before .before .before .before .before .put-all .ensures)
+finish-requires c κs =
+    let stored = c .before .before .before .before .before in
+    left-most (makes-begun (stored .before .before .new .ensures) (stored .put-all .ensures))
 
 same-length : tie.Need-same-length
 same-length c = c .before .before .before .before .before .image .given
@@ -48,10 +53,12 @@ returns : tie.Need-returns
 returns c =
     let asked = c .before .before .before in
     let stored = asked .before .before .before in
-    let placed = stored .before .before .before in
+    let made = stored .before .before in
+    let placed = made .before .before in
     let begin = placed .before .before .before in
     let context = now (begin .args .context) in
-    let given = given-puts (begin .args .i) context (placed .tentative-at .ensures) (stored .put-all .ensures) in
+    let first = makes-begun (made .new .ensures) (stored .put-all .ensures) in
+    let given = given-puts (begin .args .i) context (placed .tentative-at .ensures) first in
     λ before e.
     rw (c .finish .ensures)
     (awaits (begin .args .i) context (begin .pre .2) (begin .pre .3) before e (begin .pre .4 .members) given
@@ -64,17 +71,19 @@ complete-requires : tie.Need-complete-requires
 complete-requires c κs =
     let told = c .before .before .before in
     let stored = told .before .before .before .before .before .before .before in
-    let begin = stored .before .before .before .before .before .before in (
+    let made = stored .before .before in
+    let begin = made .before .before .before .before .before in
+    let first = makes-begun (made .new .ensures) (stored .put-all .ensures) in (
       begin .pre .0,
       puts-length (told .announce .ensures) ∙ makes-length (stored .put-all .ensures) ∙ begin .pre .1,
-      puts-well (told .announce .ensures) (makes-well (stored .put-all .ensures) (well-start _)),
+      puts-well (told .announce .ensures) (makes-well first (well-start _)),
     )
 
 clear-requires : tie.Need-clear-requires
 clear-requires c κs =
     let told = c .before .before .before .before .before .before in
     let stored = told .before .before .before .before .before .before .before in
-    let begin = stored .before .before .before .before .before .before in
+    let begin = stored .before .before .before .before .before .before .before in
     let group = begin .pre .4 in
     group .left ∙ ap (emptied (begin .args .r .rows)) (sym (group .members))
 
@@ -83,10 +92,12 @@ finish-requires-2 c κs =
     let done = c .before .before .before .before in
     let told = done .before .before .before .before in
     let stored = told .before .before .before .before .before .before .before in
-    let placed = stored .before .before .before in
+    let made = stored .before .before in
+    let placed = made .before .before in
     let begin = placed .before .before .before in
     let context = now (begin .args .context) in
-    let given = given-puts (begin .args .i) context (placed .tentative-at .ensures) (stored .put-all .ensures) in
+    let first = makes-begun (made .new .ensures) (stored .put-all .ensures) in
+    let given = given-puts (begin .args .i) context (placed .tentative-at .ensures) first in
     left-all given (told .announce .ensures) (done .complete .ensures)
 
 same-length-2 : tie.Need-same-length-2
@@ -102,10 +113,12 @@ returns-2 c =
     let done = c .before .before .before .before .before in
     let told = done .before .before .before .before in
     let stored = told .before .before .before .before .before .before .before in
-    let placed = stored .before .before .before in
+    let made = stored .before .before in
+    let placed = made .before .before in
     let begin = placed .before .before .before in
     let context = now (begin .args .context) in
-    let given = given-puts (begin .args .i) context (placed .tentative-at .ensures) (stored .put-all .ensures) in
+    let first = makes-begun (made .new .ensures) (stored .put-all .ensures) in
+    let given = given-puts (begin .args .i) context (placed .tentative-at .ensures) first in
     λ before e.
     rw (c .finish2 .ensures)
     (commits-all (begin .args .i) context (begin .pre .2) (begin .pre .3) before e (begin .pre .4 .members) given
@@ -121,6 +134,7 @@ give-spec =
     tentative-at-requires
     mul-at
     add-at
+    new-requires
     put-all-requires
     cast-commit-of
     commit-of-requires
