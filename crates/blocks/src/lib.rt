@@ -1,6 +1,8 @@
 // The loops that a commit, a fault and a power-up are made of. Every store is made by `store`.
 use boards::sets::has;
 use boards::sets::tagged_in;
+use layout::DECISION;
+use layout::TAGS;
 use layout::current_at;
 use layout::tentative_at;
 use protocol::Shape;
@@ -35,7 +37,7 @@ fn copy_block(image: &mut [u8], s: Shape, g: u16, save: bool, b: usize, k: Budge
     ensures { λ r. ⌜ Puts s (block-puts s (view s (now (image .entry))) g save b) k
         (now (image .entry)) r (now (image .exit)) ⌝ }
 {
-    let tag = image[12 + b];
+    let tag = image[TAGS + b];
     if !tagged_in(g, tag) {
         return k;
     }
@@ -45,7 +47,7 @@ fn copy_block(image: &mut [u8], s: Shape, g: u16, save: bool, b: usize, k: Budge
     let from = offset(save, cells);
     let to = offset(!save, cells);
     let copied = copy_at(image, at, from, to, size, k);
-    store(image, 12 + b, 0, copied)
+    store(image, TAGS + b, 0, copied)
 }
 
 // The first block from b on that has an active writer, or B.
@@ -56,7 +58,7 @@ fn next_tagged(image: &[u8], s: Shape, b: usize) -> usize
 {
     let mut i = b;
     while i < s.blocks {
-        if image[12 + i] != 0 {
+        if image[TAGS + i] != 0 {
             return i;
         }
         i += 1;
@@ -115,5 +117,5 @@ pub fn complete(image: &mut [u8], s: Shape, g: u16, k: Budget) -> Budget
 {
     let saved = copy_blocks(image, s, g, true, k);
     let kept = copy_contexts(image, s, g, saved);
-    store(image, 9, 0, kept)
+    store(image, DECISION, 0, kept)
 }

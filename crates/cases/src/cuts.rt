@@ -7,8 +7,10 @@ use crate::area::copy;
 use bench::calls::call;
 use bench::tell;
 use bench::text::Request;
+use layout::TAGS;
 use protocol::Answer;
 use protocol::Reply;
+use store::answers;
 use volatile::Record;
 ghost use Prim.Native.Nat.{_≤_};
 ghost use lib.ListN.{length};
@@ -52,7 +54,7 @@ fn counted(t: Tally, as_before: bool, as_after: bool) -> Tally {
 // Power-up cut at k and, if it was, made again; whether the first was done or refused.
 fn power_up_twice(image: &mut [u8], k: usize) -> bool {
     let first = recovery::power_up(image, k);
-    if first.answer.status != 9 {
+    if first.answer.status != answers::CUT {
         return true;
     }
     recovery::power_up(image, ENOUGH);
@@ -61,7 +63,7 @@ fn power_up_twice(image: &mut [u8], k: usize) -> bool {
 
 // Whether the current bank is the recovery bank: B x S bytes each, past the header and B tags.
 fn banks_agree(image: &[u8]) -> bool {
-    if image.len() < 12 {
+    if image.len() < TAGS {
         return false;
     }
     let power = image[5];
@@ -73,7 +75,7 @@ fn banks_agree(image: &[u8]) -> bool {
     if cells > PART {
         return false;
     }
-    let current = 12 + blocks;
+    let current = TAGS + blocks;
     let recovery = current + cells;
     let end = recovery + cells;
     if end > image.len() {
@@ -149,7 +151,7 @@ fn one_cut(area: &mut [u8], n: usize, state: Record, r: Request, k: usize, shown
     let end = CUT + n;
     tell_cut(answer, t, &area[CUT..end], shown);
     copy(area, BEFORE, 0, n);
-    answer.status == 9
+    answer.status == answers::CUT
 }
 
 // From the image before it, the call cut at 0, 1, .. until it is not cut.

@@ -2,6 +2,9 @@
 // commit is decided and completed.
 use blocks::complete;
 use boards::Closure;
+use layout::DECISION;
+use layout::GROUP_HIGH;
+use layout::GROUP_LOW;
 use layout::tentative_at;
 use protocol::Reply;
 use protocol::Shape;
@@ -29,9 +32,9 @@ fn announce(image: &mut [u8], s: Shape, g: u16, k: Budget) -> Budget
     ensures { λ r. ⌜ Puts s (put Group 0 (g % 256) ∷ put Group 1 (g / 256) ∷ put Decision 0 1 ∷ []) k
         (now (image .entry)) r (now (image .exit)) ⌝ }
 {
-    let low = store(image, 10, (g % 256) as u8, k);
-    let high = store(image, 11, (g / 256) as u8, low);
-    store(image, 9, 1, high)
+    let low = store(image, GROUP_LOW, (g % 256) as u8, k);
+    let high = store(image, GROUP_HIGH, (g / 256) as u8, low);
+    store(image, DECISION, 1, high)
 }
 
 // Board i has acknowledged, which gave the record r; the group is the members of i's commit, with r's rows when their

@@ -1,4 +1,5 @@
 // Formatting: the public call that makes an image of a shape. Every store is made by `store`.
+use layout::DECISION;
 use layout::MARK;
 use layout::allowed;
 use layout::header_byte;
@@ -28,7 +29,7 @@ fn fill_header(image: &mut [u8], s: Shape, k: Budget) -> Budget
 {
     let mut left = k;
     let mut i = 1;
-    while i < 9 {
+    while i < DECISION {
         let byte = header_byte(s, i);
         left = store(image, i, byte, left);
         i += 1;
@@ -44,7 +45,7 @@ fn fill_zeros(image: &mut [u8], k: Budget) -> Budget
 {
     let end = image.len();
     let mut left = k;
-    let mut i = 9;
+    let mut i = DECISION;
     while i < end {
         left = store(image, i, 0, left);
         i += 1;

@@ -12,6 +12,18 @@ ghost use Rattle.protocol.specs.Image.{allowed, exponent, shape-of, in-order, b
 // The mark, hexadecimal 52 53 4D 31: what every header test compares and formatting stores.
 pub const MARK: [u8; 4] = *b"RSM1";
 
+// The decision, 0 or 1: the first byte past mark and shape.
+pub const DECISION: usize = 9;
+
+// The deciding group's low byte.
+pub const GROUP_LOW: usize = 10;
+
+// Its high byte.
+pub const GROUP_HIGH: usize = 11;
+
+// Where the tags begin.
+pub const TAGS: usize = 12;
+
 // The power of two that a block size is; 7 for a number that is none of the seven.
 pub fn exponent(size: usize) -> u8
     ensures { λ r. ⌜ r ≡ exponent size ⌝ }
@@ -89,7 +101,7 @@ pub fn current_at(s: Shape) -> usize
     requires { ⌜ allowed s ≡ true ⌝ }
     ensures { λ r. ⌜ r ≡ base s Current ⌝ }
 {
-    12 + s.blocks
+    TAGS + s.blocks
 }
 
 // Each area begins where the one before it ends.
@@ -126,7 +138,7 @@ pub fn total(s: Shape) -> usize
 pub fn in_order(image: &[u8], most: u8) -> bool
     ensures { λ r. ⌜ r ≡ in-order most (now (image .entry)) ⌝ }
 {
-    if image.len() < 12 {
+    if image.len() < TAGS {
         return false;
     }
     if !mark_ok(image) {
@@ -142,7 +154,7 @@ pub fn in_order(image: &[u8], most: u8) -> bool
     if image.len() != total(s) {
         return false;
     }
-    image[9] <= most
+    image[DECISION] <= most
 }
 
 // The byte that formatting stores at i of the header.

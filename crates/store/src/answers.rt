@@ -8,6 +8,9 @@ ghost use Prim.Native.Nat.{_≤_};
 ghost use Rattle.store.specs.Promise.{reply-of};
 ghost use Rattle.protocol.specs.Calls.{refusal-of};
 
+// The status of a call that was cut.
+pub const CUT: u8 = 9;
+
 // Done, or cut if the budget refused a store: then the record is off and no group is answered.
 pub fn finish(k: usize, left: Budget, decided: bool, group: u16, next: Record) -> Reply
     requires { ⌜ left .left ≤ k ⌝ }
@@ -16,7 +19,7 @@ pub fn finish(k: usize, left: Budget, decided: bool, group: u16, next: Record) -
     let stores = k - left.left;
     if left.cut {
         let answer = Answer {
-            status: 9,
+            status: CUT,
             decided,
             group: 0,
             stores,

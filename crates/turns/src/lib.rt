@@ -3,6 +3,7 @@ use printing::put_row;
 use protocol::Answer;
 use protocol::Reply;
 use recovery::power_up;
+use store::answers::CUT;
 use volatile::Record;
 ghost use mathlib.Core.Path.{_≡_};
 ghost use mathlib.Core.Bool.{cond};
@@ -76,7 +77,7 @@ pub fn end_turn(
     let answer = reply.answer;
     let state = reply.next;
     let end = put_row(out, at, number, letter, answer, bytes);
-    if answer.status == 9 {
+    if answer.status == CUT {
         return power_turn(area, size, bytes, number, out, end);
     }
     let next = Session {
