@@ -13,7 +13,7 @@ fn format_call(image: &mut [u8], state: Record, r: Request) -> Reply {
         blocks: r.c,
         context: r.d,
     };
-    format::format(image, s, r.k, state)
+    format::format(image, state, s, r.k)
 }
 
 fn read_call(image: &[u8], state: Record, r: Request, buffer: &mut [u8]) -> Reply {

@@ -66,7 +66,7 @@ fn lay_out(image: &mut [u8], s: Shape, k: Budget) -> Budget
 }
 
 // Format: any bytes become an image of shape s, or the call is refused, or cut after k stores.
-pub fn format(image: &mut [u8], s: Shape, k: usize, state: Record) -> Reply
+pub fn format(image: &mut [u8], state: Record, s: Shape, k: usize) -> Reply
     ensures { λ r. ⌜ Formatted s (now (image .entry)) state k r (now (image .exit)) ⌝ }
 {
     let next = Record::fresh();

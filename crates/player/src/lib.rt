@@ -45,7 +45,7 @@ fn format_anew(area: &mut [u8], s: Shape, size: usize, k: usize, state: Record) 
     ensures { λ r. ⌜ Formatted s (replicate size 0) state k r (take size (now (area .exit))) ⌝ }
 {
     clear(&mut area[0..size]);
-    format(&mut area[0..size], s, k, state)
+    format(&mut area[0..size], state, s, k)
 }
 
 // A format within the limits first makes the image that length, all zero.
@@ -65,7 +65,7 @@ fn play_format(
     let state = p.state;
     if !allowed(s) {
         let length = p.length;
-        let reply = format(&mut area[0..length], s, p.k, state);
+        let reply = format(&mut area[0..length], state, s, p.k);
         return end_turn(area, length, reply, b'F', &none[0..0], number, out, at);
     }
     let size = total(s);
