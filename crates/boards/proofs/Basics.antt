@@ -1,6 +1,6 @@
 -- Laws of tests, loops and ranges that every other proof uses.
-use Prim.Native.Nat.{ℕ, zero, suc, _+_, _-_, _<_}
-use mathlib.Core.Path.{_≡_, refl, sym, _∙_, ap}
+use Prim.Native.Nat.{ℕ, zero, suc, _+_, _-_, _*_, _≤_, _<_}
+use mathlib.Core.Path.{_≡_, refl, sym, _∙_, ap, ap₂}
 use mathlib.Core.Bool.{Bool, true, false, _&&_, _||_, not, cond, true≢false, false≢true}
 use mathlib.Core.List.{List, [], _∷_, _++_, map}
 use mathlib.Core.Logic.{_⊎_, inl, inr, ⊎-elim}
@@ -8,7 +8,8 @@ use lib.Dec.{eqb}
 use lib.ListN.{length, getD, take}
 use lib.Seq.{take-nil}
 use native.Mathlib.Omega.{arith}
-use native.Mathlib.Nat.{not-suc-le-zero, sub-zero, zero-sub, suc-sub-suc}
+use native.Mathlib.Nat.{not-suc-le-zero, sub-zero, zero-sub, suc-sub-suc, zero-add, add-zero, suc-add, suc-mul}
+use native.Mathlib.Nat.{mul-le-mul-right}
 use borrow.Author.Tests.{eq-eqb, eqb-true}
 use Rattle.boards.specs.Lists.{for, span, every, any, anyOf}
 
@@ -83,6 +84,9 @@ if-false x y p = ap (λ c. cond c x y) p
 
 pub eqb-same : (n : ℕ) → eqb n n ≡ true
 eqb-same n = eq-eqb n n refl
+
+pub eqb-comm : (a b : ℕ) → eqb a b ≡ eqb b a
+eqb-comm a b = test-ext _ _ (λ e. eq-eqb b a (sym (eqb-true a b e))) (λ e. eq-eqb a b (sym (eqb-true b a e)))
 
 -- ---- tests over a range
 
@@ -167,6 +171,11 @@ module _ {X : Type 0} {P : X → Type 0} where
   all-map f none = none
   all-map f (also h p) = also (f _ h) (all-map f p)
 
+  pub all-mapped : {Y : Type 0} {Q : Y → Type 0} (f : X → Y) {xs : List X} → ((x : X) → P x → Q (f x)) → All P xs
+      → All Q (map f xs)
+  all-mapped f g none = none
+  all-mapped f g (also h p) = also (g _ h) (all-mapped f g p)
+
   pub anyOf-false : (t : X → Bool) {xs : List X} → ((x : X) → P x → t x ≡ false) → All P xs → anyOf t xs ≡ false
   unfolding anyOf
   anyOf-false t f none = refl
@@ -192,6 +201,39 @@ module _ {X : Type 0} (f : ℕ → X) where
   getD-span a zero x d l = below-zero l
   getD-span a (suc n) zero d l = ap f (omega arith)
   getD-span a (suc n) (suc x) d l = getD-span (suc a) n x d (omega arith) ∙ ap f (omega arith)
+
+  -- a range in two parts
+  pub span-append : (a m n : ℕ) → span f a (m + n) ≡ span f a m ++ span f (a + m) n
+  unfolding span
+  span-append a zero n = rw (zero-add, add-zero)
+  span-append a (suc m) n =
+      rw suc-add (ap (λ l. f a ∷ l) (span-append (suc a) m n ∙ ap (λ b. span f (suc a) m ++ span f b n) (omega arith)))
+
+  -- what holds at each of the numbers
+  pub all-span : {P : X → Type 0} (a n : ℕ) → ((i : ℕ) → a ≤ i → i < a + n → P (f i)) → All P (span f a n)
+  unfolding span
+  all-span a zero h = none
+  all-span a (suc n) h =
+      also (h a (omega arith) (omega arith)) (all-span (suc a) n (λ i l m. h i (omega arith) (omega arith)))
+
+  -- two ranges that agree number by number
+  pub span-same : (g : ℕ → X) (a b n : ℕ) → ((x : ℕ) → x < n → f (a + x) ≡ g (b + x)) → span f a n ≡ span g b n
+  unfolding span
+  span-same g a b zero h = refl
+  span-same g a b (suc n) h =
+      ap₂ (λ x l. x ∷ l)
+      (ap f (omega arith) ∙ h 0 (omega arith) ∙ ap g (omega arith))
+      (span-same g (suc a) (suc b) n (λ x l. ap f (omega arith) ∙ h (suc x) (omega arith) ∙ ap g (omega arith)))
+
+-- two loops that agree round by round
+pub for-ext : {X : Type 0} (n : ℕ) (f g : ℕ → List X) → ((i : ℕ) → i < n → f i ≡ g i) → for n f ≡ for n g
+unfolding for
+for-ext zero f g h = refl
+for-ext (suc n) f g h = rw (for-ext n f g (λ i l. h i (omega arith)), h n (omega arith))
+
+-- of rows of n, one after the other, row i ends within the first b if it is one of them
+pub row-fits : (n b i : ℕ) → i < b → i * n + n ≤ b * n
+row-fits n b i l = omega (arith, suc-mul i n, mul-le-mul-right n l)
 
 -- ---- prefixes
 

@@ -7,9 +7,10 @@ use mathlib.Core.Logic.{_⊎_, inl, inr, ⊎-elim, _↔_}
 use lib.Dec.{eqb, ltb, leb}
 use lib.ListN.{length, getD, length-append, List·getD-append, List·getD-eq-default}
 use lib.Seq.{getD-at}
-use lib.Pow.{pow-pos}
+use lib.Pow.{pow-pos, shr-shr}
 use native.Mathlib.Omega.{arith}
-use native.Mathlib.Nat.{pow-suc, pow-succ', div-one, div-div-eq-div-mul}
+use native.Mathlib.Nat.{pow-suc, div-one}
+use native.Mathlib.Numerals.{one-add}
 use borrow.Author.Tests.{ltb-true, ltb-false, lt-leb, eq-eqb, ne-eqb, eqb-true, eqb-false}
 use Rattle.boards.specs.Lists.{for}
 use Rattle.boards.specs.Boards.{has, mask, setOf, single, with-board, meets, beyond, Links, unlinked, link}
@@ -235,11 +236,11 @@ module _ {d : Links} {p : ℕ → Bool} where
 -- ---- groups
 
 -- how many numbers below n have p
-count : ℕ → (ℕ → Bool) → ℕ
+unfoldable pub count : ℕ → (ℕ → Bool) → ℕ
 count zero p = 0
 count (suc n) p = count n p + cond (p n) 1 0
 
-count-le : (n : ℕ) (p : ℕ → Bool) → count n p ≤ n
+pub count-le : (n : ℕ) (p : ℕ → Bool) → count n p ≤ n
 unfolding count
 count-le zero p = omega arith
 count-le (suc n) p = omega (arith, bit-le (p n), count-le n p)
@@ -444,17 +445,16 @@ in-set p j = (
   λ h. has-mask 16 p j (h .0) ∙ h .1,
 )
 
-has-bit : (g j : ℕ) → has g j ≡ eqb (g / 2 ^ j % 2) 1
+-- bit j by a shift
+pub has-shift : (g j : ℕ) → has g j ≡ eqb (g / 2 ^ j % 2) 1
 unfolding has
-has-bit g zero = ap (λ x. eqb (x % 2) 1) (sym (div-one g))
-has-bit g (suc j) =
-    has-bit (g / 2) j
-    ∙ ap (λ x. eqb (x % 2) 1) (div-div-eq-div-mul g 2 (2 ^ j) ∙ ap (λ x. g / x) (sym (pow-succ' 2 j)))
+has-shift g zero = rw div-one
+has-shift g (suc j) = has-shift (g / 2) j ∙ ap (λ x. eqb (x % 2) 1) (shr-shr g 1 j ∙ ap (λ n. g / 2 ^ n) (one-add j))
 
 pub words-by-members : Words-by-members
 words-by-members =
     record {
-      bit = has-bit;
+      bit = has-shift;
       set-of = in-set;
       with-one =
           λ g i j.

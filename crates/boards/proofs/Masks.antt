@@ -10,28 +10,22 @@ use lib.Dec.{leb, eqb, lit<, eqb·zero-suc, eqb·suc-zero, eqb·suc-suc}
 use lib.Bits.{bitAnd, bitOr, and-step, or-step, or-lt, and-lt}
 use lib.ListN.{length, getD, set, drop, length-set}
 use lib.Seq.{ext-getD, getD-set-same, getD-set-other, drop-cons, set-at, append-snoc}
-use lib.Pow.{shr-shr, shl-exact, pow-pos, pow-lt}
+use lib.Pow.{shl-exact, pow-pos, pow-lt}
 use native.Mathlib.Omega.{arith}
-use native.Mathlib.Nat.{pow-suc, one-mul, div-one, div-eq-of-lt, div-lt-iff-lt-mul}
-use native.Mathlib.Numerals.{one-add, add-one}
+use native.Mathlib.Nat.{pow-suc, one-mul, div-eq-of-lt, div-lt-iff-lt-mul}
+use native.Mathlib.Numerals.{add-one}
 use borrow.Author.Tests.{eq-eqb, ne-eqb, eqb-true, eqb-false, leb-true, leb-false}
 use Rattle.boards.specs.Lists.{for}
 use Rattle.boards.specs.Boards.{has, mask, setOf, single, with-board, meets, within, beyond, tagged-in, Links}
 use Rattle.boards.specs.Boards.{link, unlink}
 use Rattle.boards.specs.Rows.{links-of, rows-of, joined}
-use Rattle.boards.proofs.Basics.{decide, clash, false-and, test-ext}
+use Rattle.boards.proofs.Basics.{decide, clash, false-and, test-ext, eqb-comm}
 use Rattle.boards.proofs.Basics.{every-at, every-all, any-none, any-some}
 use Rattle.boards.proofs.Groups.{has-zero, has-mask, has-none, has-ext, has-single, has-small, has-below}
 use Rattle.boards.proofs.Groups.{has-beyond}
 use Rattle.boards.proofs.Groups.{mask-below, no-beyond, length-for, getD-for}
 
 -- ---- bits
-
--- bit j by a shift
-pub has-shift : (g j : ℕ) → has g j ≡ eqb (g / 2 ^ j % 2) 1
-unfolding has
-has-shift g zero = rw div-one
-has-shift g (suc j) = has-shift (g / 2) j ∙ ap (λ x. eqb (x % 2) 1) (shr-shr g 1 j ∙ ap (λ n. g / 2 ^ n) (one-add j))
 
 -- what holds of 0 and 1 holds of a digit
 digit : (P : ℕ → Type 0) → P 0 → P 1 → (a : ℕ) → P (a % 2)
@@ -89,9 +83,6 @@ has-power (suc i) zero = ne-eqb (2 ^ suc i % 2) 1 (omega (arith, pow-suc 2 i)) �
 has-power (suc i) (suc j) =
     let high : 2 ^ suc i / 2 ≡ 2 ^ i = omega (arith, pow-suc 2 i) in
     ap (λ x. has x j) high ∙ has-power i j ∙ sym (eqb·suc-suc i j)
-
-eqb-comm : (a b : ℕ) → eqb a b ≡ eqb b a
-eqb-comm a b = test-ext _ _ (λ e. eq-eqb b a (sym (eqb-true a b e))) (λ e. eq-eqb a b (sym (eqb-true b a e)))
 
 -- ---- sets
 

@@ -1,7 +1,7 @@
 -- `has` meets its contract: bit j by a shift.
 use mathlib.Core.Path.{sym}
 use native.Mathlib.Omega.{arith}
-use Rattle.boards.proofs.Masks.{has-shift}
+use Rattle.boards.proofs.Groups.{has-shift}
 use Rattle.boards.proofs.sets.has.Statement.{statement}
 use Rattle.boards.proofs.sets.has.Tie as tie
 
