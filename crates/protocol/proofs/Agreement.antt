@@ -146,6 +146,12 @@ pub record On (s : Shape) (m : Memory) (r : Record) (l : Ledger) : Type 0 where
   pub given : (i x : ℕ) → i < s .boards → x < s .context → has (r .commit .acknowledged) i ≡ true
       → m Tentative (i * s .context + x) ≡ getD (l .given i) x 0
 
+-- a block's tag, seen from memory and from the notes
+pub tag-noted : {s : Shape} {m : Memory} {r : Record} {l : Ledger} → On s m r l → (g b : ℕ) → b < s .blocks → {t : Bool}
+    → tagged-in g (m Tags b) ≡ t → tag-in (has g) (writer s (l .notes) b) ≡ t
+tag-noted {s} {l = l} on g b k e =
+    sym (tag-in-same g (writer s (l .notes) b)) ∙ ap (tagged-in g) (sym (on .tags b k)) ∙ e
+
 -- a power cut finds a memory that tells what was kept
 pub on-idle : {s : Shape} {m : Memory} {r : Record} {l : Ledger} → 0 < s .size → On s m r l
     → Idle s (kept-cell l) (l .kept) m

@@ -2,14 +2,14 @@
 use Prim.Native.Nat.{ℕ, zero, suc, _+_, _*_, _^_, _≤_, _<_}
 use mathlib.Core.Path.{_≡_, refl, sym, _∙_, ap, ap₂, fun-ext}
 use mathlib.Core.Bool.{Bool, true, false, _&&_, cond}
-use mathlib.Core.List.{List, [], _∷_, map}
+use mathlib.Core.List.{List, [], _∷_, _++_, map}
 use mathlib.Core.Logic.{_≢_, ⊎-elim}
 use lib.Dec.{eqb, ltb, leb, lit<}
 use lib.ListN.{length, getD, set, take, drop, length-set}
 use lib.Seq.{getD-set-same, getD-set-other, drop-cons}
 use lib.Pow.{pow-pos, pow-mono}
 use native.Mathlib.Omega.{arith}
-use native.Mathlib.Nat.{add-suc, not-suc-le-zero, mul-le-mul-right, suc-mul}
+use native.Mathlib.Nat.{add-suc, not-suc-le-zero}
 use borrow.Author.Tests.{eq-eqb, eqb-true, leb-true, lt-leb, lt-ltb, le-ltb, ltb-true, ltb-false}
 use Rattle.boards.specs.Lists.{span, every, any}
 use Rattle.protocol.specs.Image.{Area, Header, Decision, Group, Tags, Current, Recovery, Tentative, Checkpoint}
@@ -18,7 +18,7 @@ use Rattle.protocol.specs.Image.{in-order, view, Store, made, Put, put, 
 use Rattle.protocol.specs.Calls.{decides, first, context-tests, context-status, context-part}
 use Rattle.protocol.specs.declared.Shape.{Shape}
 use Rattle.boards.proofs.Basics.{decide, clash, and-true, true-and, test-ext, if-true, if-false, below-suc}
-use Rattle.boards.proofs.Basics.{every-at, every-all, any-some, All, none, also}
+use Rattle.boards.proofs.Basics.{every-at, every-all, any-some, All, none, also, all-mapped, row-fits}
 
 -- what is equal to either arm of a choice where that arm is taken
 either : {X : Type 0} (b : Bool) {x y z : X} → (b ≡ true → z ≡ x) → (b ≡ false → z ≡ y) → z ≡ cond b x y
@@ -61,6 +61,9 @@ limits s h =
       most-cells = leb-true _ _ (f .0);
       most-context = leb-true _ _ (f .1);
     }
+
+pub board-small : {s : Shape} {i : ℕ} → Limits s → i < s .boards → i < 16
+board-small bound l = omega (arith, bound .most-boards)
 
 -- an image in order but for byte 9, and of the shape s
 pub record Sound (s : Shape) (image : List ℕ) : Type 0 where
@@ -214,6 +217,18 @@ unfolding made
 length-made [] image = refl
 length-made (s ∷ ss) image = length-made ss _ ∙ length-set image (s .at) (s .value)
 
+pub made-append : (ss ts : List Store) (image : List ℕ) → made (ss ++ ts) image ≡ made ts (made ss image)
+unfolding made
+made-append [] ts image = refl
+made-append (s ∷ ss) ts image = made-append ss ts _
+
+-- a byte that no store is made at stays
+pub made-else : (i : ℕ) {ss : List Store} (image : List ℕ) → All (λ s. s .at ≢ i) ss → byte (made ss image) i ≡ byte image i
+unfolding made
+made-else i image none = refl
+made-else i image (also {x = s} h hs) =
+    made-else i _ hs ∙ getD-set-other image (s .at) i (s .value) 0 (λ e. h (sym e))
+
 -- a store of a valid put decides if it sets the decision byte to 1
 pub decides-raw : (s : Shape) (p : Put) → Valid s p → decides (raw s p) ≡ eqb (rank (p .area)) 1 && eqb (p .value) 1
 unfolding decides raw base size rank
@@ -272,11 +287,9 @@ view-made-fun s ps image e (also {x = p} {xs = qs} v vs) =
 -- valid puts leave the header, so the image stays sound
 pub header-kept : {s : Shape} {ps : List Put} (image : List ℕ) (i : ℕ) → i < 9 → All (Valid s) ps →
     byte (made (map (raw s) ps) image) i ≡ byte image i
-unfolding made raw
-header-kept image i l none = refl
-header-kept {s} image i l (also {x = p} v vs) =
-    header-kept _ i l vs
-    ∙ getD-set-other image _ i (p .value) 0 (λ e. omega (arith, past-header s (p .area) (v .body)))
+unfolding raw
+header-kept {s} image i l vs =
+    made-else i image (all-mapped (raw s) (λ p v e. omega (arith, past-header s (p .area) (v .body))) vs)
 
 pub made-sound : {s : Shape} {ps : List Put} {image : List ℕ} → Sound s image → All (Valid s) ps →
     Sound s (made (map (raw s) ps) image)
@@ -292,6 +305,5 @@ pub context-of : {s : Shape} {image : List ℕ} → Sound s image → byte image
 unfolding context-tests context-part first size
 context-of {s} {image} h z i l =
     let k = s .context in
-    let within : i * k + k ≤ contexts s = omega (arith, suc-mul i k, mul-le-mul-right k l) in
     rw (in-order-sound s image h 0, z, h .shape, lt-leb (s .boards) i l)
-    (refl, part-view s image Checkpoint (i * k) k (h .long) within)
+    (refl, part-view s image Checkpoint (i * k) k (h .long) (row-fits k (s .boards) i l))

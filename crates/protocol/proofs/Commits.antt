@@ -29,7 +29,7 @@ use Rattle.protocol.proofs.Consistent.{started-ok, handed-ok, decided-o
 use Rattle.protocol.proofs.Copies.{placing-other, placing-outside, placing-whole, flat-split}
 use Rattle.protocol.proofs.Safety.{Deciding, completed, decision, block-below}
 use Rattle.protocol.proofs.Agreement.{On, Agrees, nobody, somebody, Some-boards, kept-cell, on-idle, meets-all}
-use Rattle.protocol.proofs.Agreement.{agrees-clear, tag-in-same, untag-in, untag-out, commit-in}
+use Rattle.protocol.proofs.Agreement.{agrees-clear, tag-noted, untag-in, untag-out, commit-in}
 use Rattle.protocol.proofs.Steps.{depends-bounded}
 
 -- ---- the commit that has a board as member
@@ -191,12 +191,6 @@ module _ {s : Shape} {m : Memory} {r : Record} {l : Ledger} (h : On s m r l) (mo
               → Forward (has (c .members)) (l .links)
           head (also f fs) = f
 
-      -- the tag of a cell's block, in memory and in the notes
-      tag-noted : (b : ℕ) → b < s .blocks → (t : Bool) → tagged-in g (given-memory Tags b) ≡ t
-          → tag-in (has g) (writer s (before .notes) b) ≡ t
-      tag-noted b k t e = sym (tag-in-same g (writer s (before .notes) b)) ∙ ap (tagged-in g) (sym (given-on .tags b k))
-          ∙ e
-
       -- what is kept of a cell after the decision
       decided-marks : (a : ℕ) → marks (settled-ledger .notes) a ≡ map (settle (has g) kept) (marks (before .notes) a)
       unfolding decided cleared
@@ -208,14 +202,14 @@ module _ {s : Shape} {m : Memory} {r : Record} {l : Ledger} (h : On s m r l) (mo
           let b< = block-below s a positive k in
           ap saved (decided-marks a)
           ∙ commit-in (writer s (before .notes) (a / s .size)) closed-group (given-on .consistent .order a)
-          (tag-noted (a / s .size) b< true e)
+          (tag-noted given-on g (a / s .size) b< e)
 
       kept-out : (a : ℕ) → a < cells s → tagged-in g (given-memory Tags (a / s .size)) ≡ false
           → kept-cell settled-ledger a ≡ kept-cell before a
       kept-out a k e =
           let b< = block-below s a positive k in
           ap saved (decided-marks a)
-          ∙ commit-saved closed-group (tag-noted (a / s .size) b< false e) (given-on .consistent .order a .above)
+          ∙ commit-saved closed-group (tag-noted given-on g (a / s .size) b< e) (given-on .consistent .order a .above)
 
       pub decision-safe : Deciding s (kept-cell settled-ledger) (settled-ledger .kept) g (decision s m i g context)
       unfolding decision change rank stored-group decided tagged-in acknowledge
@@ -261,10 +255,10 @@ module _ {s : Shape} {m : Memory} {r : Record} {l : Ledger} (h : On s m r l) (mo
                 rw (writer-settled s (has g) keeps (before .notes) b)
                 (⊎-elim
                 (λ (e : tagged-in g (given-memory Tags b) ≡ true).
-                c .tag-zero b k e ∙ sym (untag-in (has g) (writer s (before .notes) b) (tag-noted b k true e)))
+                c .tag-zero b k e ∙ sym (untag-in (has g) (writer s (before .notes) b) (tag-noted given-on g b k e)))
                 (λ (e : tagged-in g (given-memory Tags b) ≡ false).
                 c .tag-left b e ∙ on .tags b k ∙ sym
-                (untag-out (has g) (writer s (before .notes) b) (tag-noted b k false e)))
+                (untag-out (has g) (writer s (before .notes) b) (tag-noted given-on g b k e)))
                 (decide (tagged-in g (given-memory Tags b))));
             current =
                 λ a k.

@@ -20,7 +20,7 @@ use Rattle.protocol.specs.Ledger.{reads-undone}
 use Rattle.protocol.specs.Dependences.{width, is-write, came-upon, depends-by-notes}
 use Rattle.protocol.specs.declared.Shape.{Shape}
 use Rattle.boards.proofs.Basics.{decide, clash, refute, and-true, true-and, and-false, All, none, also, all-map}
-use Rattle.boards.proofs.Basics.{anyOf-false, length-span}
+use Rattle.boards.proofs.Basics.{all-mapped, anyOf-false, length-span, all-span}
 use Rattle.boards.proofs.Groups.{Forward, Backward, Bounded, bounded-more, unlink-true, unlink-bounded}
 use Rattle.boards.proofs.Groups.{links-ext, unlinked-bounded, commit-group-forward}
 use Rattle.protocol.proofs.Marks.{settle, untag, Ends, mark, marks, To, to, From, from, Above, Top, Kept-order}
@@ -44,11 +44,6 @@ pub record Consistent (s : Shape) (l : Ledger) : Type 0 where
   pub told : (i j : ℕ) → l .links i j ≡ depends-by-notes s (l .notes) i j
 
 -- ---- lists of notes and commits
-
-all-mapped : {P Q : Note → Type 0} (f : Note → Note) {ns : List Note} → ((n : Note) → P n → Q (f n)) → All P ns
-    → All Q (map f ns)
-all-mapped f g none = none
-all-mapped f g (also h hs) = also (g _ h) (all-mapped f g hs)
 
 all-kept : {P : Open-commit → Type 0} (t : Open-commit → Bool) (cs : List Open-commit) → All P cs → All P (select t cs)
 unfolding select
@@ -222,14 +217,6 @@ module _ {s : Shape} {l : Ledger} (c : Consistent s l) {how : ℕ → Binding} {
         go none e = by-none
         go (some k) e = by (sourced (l .links) (writer s (l .notes) (x / s .size)) (l .notes) x k (c .order x .top) e)
 
--- what holds at each of n numbers from a on
-all-span : {X : Type 0} {P : X → Type 0} (f : ℕ → X) (a n : ℕ) → ((x : ℕ) → a ≤ x → x < a + n → P (f x))
-    → All P (span f a n)
-unfolding span
-all-span f a zero h = none
-all-span f a (suc n) h = also (h a (omega arith) (omega arith))
-    (all-span f (suc a) n (λ x lo hi. h x (omega arith) (omega arith)))
-
 module _ {s : Shape} {l : Ledger} (c : Consistent s l) {i a n : ℕ} (ok : Access-ok s read-binding i a n l) where
   pub noted-read : Consistent s (noted s read-binding i a n (Read-from (span (source (l .notes)) a n)) l)
   unfolding noted linked writer wrote-in written marks sources-of width read-binding goes-forth goes-back is-write
@@ -345,22 +332,16 @@ started-ok h c i =
       told = c .told;
     }
 
-joined-closed : {d : Links} (i : ℕ) (cs : List Open-commit) → All (λ c. Forward (has (c .members)) d) cs
-    → All (λ c. Forward (has (c .members)) d) (map (acknowledged-by i) cs)
-unfolding acknowledged-by
-joined-closed i [] none = none
-joined-closed i (c ∷ cs) (also h hs) = also h (joined-closed i cs hs)
-
 pub handed-ok : {s : Shape} {l : Ledger} → Consistent s l → (i : ℕ) (context : List ℕ)
     → Consistent s (with-context i context l)
-unfolding with-context
+unfolding with-context acknowledged-by
 handed-ok {l = l} c i context =
     record {
       bounded = c .bounded;
       boards = c .boards;
       order = c .order;
       reads = c .reads;
-      closed = joined-closed i (l .commits) (c .closed);
+      closed = all-mapped (acknowledged-by i) (λ k f. f) (c .closed);
       narrow = c .narrow;
       told = c .told;
     }

@@ -8,8 +8,8 @@ use lib.Dec.{eqb, ltb, leb}
 use lib.ListN.{length, getD, take, length-append, length-take}
 use lib.Seq.{take-all, take-length, take-nil, take-append-le, getD-take}
 use native.Mathlib.Omega.{arith}
-use native.Mathlib.Nat.{not-suc-le-zero, mul-add-div-right, div-eq-of-lt, div-add-mod', mod-lt, suc-mul}
-use native.Mathlib.Nat.{mul-le-mul-right, sub-zero, zero-sub, suc-sub-suc, add-zero, le-refl}
+use native.Mathlib.Nat.{not-suc-le-zero, mul-add-div-right, div-eq-of-lt, div-add-mod', mod-lt}
+use native.Mathlib.Nat.{sub-zero, zero-sub, suc-sub-suc, add-zero, le-refl}
 use borrow.Author.Tests.{eqb-true, leb-true, leb-false, ltb-true, ltb-false}
 use Rattle.boards.specs.Lists.{for, span}
 use Rattle.boards.specs.Boards.{has}
@@ -19,7 +19,7 @@ use Rattle.protocol.specs.Calls.{placing, copying, block-copied, blocks-
 use Rattle.protocol.specs.declared.Shape.{Shape}
 use Rattle.boards.proofs.Basics.{decide, clash, and-true, refute, true-and, if-true, if-false, eqb-same, below-suc, All}
 use Rattle.boards.proofs.Basics.{none, also, all-append, all-cond, all-for, all-map, length-span, getD-span, all-take}
-use Rattle.boards.proofs.Basics.{take-append, take-map}
+use Rattle.boards.proofs.Basics.{take-append, take-map, row-fits}
 use Rattle.protocol.proofs.Memory.{Away, after-append, after-local, change-area, change-away, change-index}
 use Rattle.protocol.proofs.Memory.{change-same, else-area, else-index, untouched}
 
@@ -81,7 +81,7 @@ flat-split n i j x y h l e =
     (same, omega (arith, ap (λ v. v * n) same))
 
 pub flat-below : (n b i x : ℕ) → i < b → x < n → i * n + x < b * n
-flat-below n b i x h l = omega (arith, suc-mul i n, mul-le-mul-right n h)
+flat-below n b i x h l = omega (arith, row-fits n b i h)
 
 -- an index is its row's start and its place in the row
 pub flat-index : (n a i : ℕ) → 0 < n → a / n ≡ i → (x : ℕ) × (x < n) × (a ≡ i * n + x)
@@ -365,24 +365,33 @@ unfolding rank
 bank-rank current = omega arith
 bank-rank recovery = omega arith
 
-bank-size : {to : Area} (s : Shape) → Bank to → size s to ≡ cells s
+pub bank-size : {to : Area} (s : Shape) → Bank to → size s to ≡ cells s
 unfolding size
 bank-size s current = refl
 bank-size s recovery = refl
 
 module _ (s : Shape) (m : Memory) where
+  -- in any number of rounds
+  pub rounds-inside : (from to : Area) (chosen : ℕ → Bool) → Bank to → (n : ℕ) → n ≤ s .blocks
+      → All (Inside s) (for n (block-copied s m from to chosen))
+  unfolding rank size
+  rounds-inside from to chosen k n most =
+      let h = bank-rank k in
+      all-for n (block-copied s m from to chosen) (λ b l.
+      all-block s m from to chosen b (λ e. (
+        (λ x v d.
+            record { past = omega arith; inside = rw (bank-size s k) (flat-below (s .size) (s .blocks) b x (omega arith) d) }),
+        record { past = omega arith; inside = omega arith },
+      )))
+
   pub blocks-inside : (from to : Area) (chosen : ℕ → Bool) → Bank to
       → All (Inside s) (blocks-copied s m from to chosen)
-  unfolding rank size
-  blocks-inside from to chosen k =
-      let h = bank-rank k in
-      all-blocks s m from to chosen
-      (λ b x v l e d.
-      record { past = omega arith; inside = rw (bank-size s k) (flat-below (s .size) (s .blocks) b x l d) })
-      (λ b l e. record { past = omega arith; inside = l })
+  unfolding blocks-copied
+  blocks-inside from to chosen k = rounds-inside from to chosen k (s .blocks) (le-refl _)
 
-  pub contexts-inside : (g : ℕ) → All (Inside s) (for (s .boards) (context-saved s m g))
+  pub contexts-inside : (g n : ℕ) → n ≤ s .boards → All (Inside s) (for n (context-saved s m g))
   unfolding rank size
-  contexts-inside g =
-      all-contexts s m g
-      (λ i x v l e d. record { past = omega arith; inside = flat-below (s .context) (s .boards) i x l d })
+  contexts-inside g n most =
+      all-for n (context-saved s m g) (λ i l.
+      all-context s m g i (λ e x v d.
+      record { past = omega arith; inside = flat-below (s .context) (s .boards) i x (omega arith) d }))

@@ -12,12 +12,8 @@ use Rattle.protocol.specs.Image.{Area, Decision, Tags, Current, Recovery
 use Rattle.protocol.specs.Calls.{copying, block-copied, blocks-copied, context-saved, completing, deciding}
 use Rattle.protocol.specs.declared.Shape.{Shape}
 use Rattle.boards.proofs.Basics.{decide}
+pub use Rattle.boards.proofs.Groups.{count}
 use Rattle.protocol.proofs.Copies.{length-copying}
-
--- how many numbers below n pass a test
-unfoldable pub count : ℕ → (ℕ → Bool) → ℕ
-count zero p = 0
-count (suc n) p = count n p + cond (p n) 1 0
 
 -- a loop whose rounds have c elements each where the test passes, and else none
 length-rounds : {X : Type 0} (c n : ℕ) (p : ℕ → Bool) (f : ℕ → List X)

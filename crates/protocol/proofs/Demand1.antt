@@ -10,7 +10,7 @@ use lib.Seq.{take-nil, take-all, length-take-le}
 use native.Mathlib.Omega.{arith}
 use borrow.Author.Tests.{eqb-true, eqb-false, ne-eqb, ltb-true, ltb-false, lt-ltb, le-ltb, lt-leb}
 use Rattle.boards.specs.Lists.{anyOf, span}
-use Rattle.protocol.specs.Image.{Store, Put, shape-of, view, made, raw, total}
+use Rattle.protocol.specs.Image.{Store, Put, shape-of, view, made, raw, total, byte, header}
 use Rattle.volatile.specs.Volatile.{fresh, off}
 use Rattle.protocol.specs.Calls.{Request, Read, Write, Start, Acknowledge, Fault, Power-up, first, refusals}
 use Rattle.protocol.specs.Calls.{plan, Outcome, refused as refuse, decides, executed, record-refused, refusal-at}
@@ -20,10 +20,10 @@ use Rattle.protocol.specs.Claim.{verdict}
 use Rattle.protocol.specs.Demand1.{ends-as, Proper, refusing, storing, Demand-1}
 use Rattle.protocol.specs.declared.Shape.{Shape}
 use Rattle.volatile.specs.declared.Record.{Record}
-use Rattle.boards.proofs.Basics.{decide, not-false, All, none, also, all-append, anyOf-false}
+use Rattle.boards.proofs.Basics.{decide, not-false, All, none, also, all-append, all-mapped, all-span, anyOf-false}
 use Rattle.protocol.proofs.Refusals.{uncut, refusals-uncut, none-hold}
 use Rattle.protocol.proofs.Bridge.{Sound, Valid, fits}
-use Rattle.protocol.proofs.Outcomes.{not-done, cut-not-done, not-cut}
+use Rattle.protocol.proofs.Outcomes.{taken, turned-down, not-done, cut-not-done, not-cut}
 use Rattle.protocol.proofs.Plans.{plan-valid}
 
 -- ---- one list of stores
@@ -66,32 +66,11 @@ module _ (image : List ℕ) (r : Record) (request : Request) where
       let s = shape-of image in
       uncut (refusals image s (view s image) r request) (refusals-uncut image s (view s image) r request)
 
-  -- a request taken, or refused
-  pub taken : refusal-at image r request ≡ 0 → (k : ℕ)
-      → perform image r request k
-      ≡ carried-out (shape-of image) (plan (shape-of image) (view (shape-of image) image) r request) k image
-  unfolding perform
-  taken e k = rw e
-
-  pub turned-down : refusal-at image r request ≢ 0 → (k : ℕ)
-      → perform image r request k ≡ refuse (refusal-at image r request) image (record-refused r request)
-  unfolding perform
-  turned-down e k = rw (ne-eqb (refusal-at image r request) 0 e)
-
-  pub refused-as : (k : ℕ) → refusal-at image r request ≢ 0 → verdict (perform image r request k) ≡ refused
-  unfolding refuse verdict
-  refused-as k e =
-      ap verdict (turned-down e k)
-      ∙ rw (ne-eqb (refusal-at image r request) 0 e, ne-eqb (refusal-at image r request) 9 never-cut)
-
   puts-inside : {s : Shape} {ps : List Put} → Sound s image → All (Valid s) ps
       → All (λ x. x .at < length image) (map (raw s) ps)
   unfolding raw
-  puts-inside h none = none
-  puts-inside {s} h (also {x = p} v vs) =
-      let l = fits s (p .area) (p .index) (v .within) in
-      let long = h .long in
-      also {x = raw s p} (omega arith) (puts-inside h vs)
+  puts-inside {s} h =
+      all-mapped (raw s) (λ p v. omega (arith, fits s (p .area) (p .index) (v .within), h .long))
 
   performed-proper : Proper image (record-refused r request) (perform image r request)
   unfolding perform
@@ -133,13 +112,6 @@ module _ (image : List ℕ) (r : Record) (request : Request) where
           (decide (ltb k (length stores)))
 
 -- the stores of a format lie within a buffer of the exact length
-ascending-below : (f : ℕ → ℕ) (a n l : ℕ) → a + n ≤ l
-    → All (λ (x : Store). x .at < l) (span (λ i. record { at = i; value = f i }) a n)
-unfolding span
-ascending-below f a zero l e = none
-ascending-below f a (suc n) l e =
-    also {x = record { at = a; value = f a }} (omega arith) (ascending-below f (suc a) n l (omega arith))
-
 format-proper : (s : Shape) (image : List ℕ) (r : Record) → Proper image r (format s image r)
 unfolding format format-tests formatting anyOf total
 format-proper s image r =
@@ -150,7 +122,7 @@ format-proper s image r =
     inside (also a (also b none)) =
         let long = eqb-true (length image) (total s) (not-false _ b) in
         also {x = record { at = 0; value = 0 }} (omega arith)
-        (all-append (ascending-below _ 1 (total s - 1) (length image) (omega arith))
+        (all-append (all-span (λ i. record { at = i; value = byte (header s) i }) 1 (total s - 1) (λ i from below. omega arith))
         (also {x = record { at = 0; value = _ }} (omega arith) none))
 
 -- a refused request hands its record back, but for a power-up
@@ -184,9 +156,9 @@ unfolding plan executed made refuse
 read-stores-nothing image r i a n room k =
     ⊎-elim
     (λ (e : eqb (refusal-at image r (Read i a n room)) 0 ≡ true).
-    ap (λ o. o .image) (taken image r (Read i a n room) (eqb-true _ 0 e) k) ∙ ap (λ l. made l image) (take-nil k))
+    ap (λ o. o .image) (taken image refl r (Read i a n room) (eqb-true _ 0 e) k) ∙ ap (λ l. made l image) (take-nil k))
     (λ (e : eqb (refusal-at image r (Read i a n room)) 0 ≡ false).
-    ap (λ o. o .image) (turned-down image r (Read i a n room) (eqb-false _ 0 e) k))
+    ap (λ o. o .image) (turned-down image refl r (Read i a n room) (eqb-false _ 0 e) k))
     (decide (eqb (refusal-at image r (Read i a n room)) 0))
 
 -- the ledger does not look at the length of its answer buffer

@@ -16,7 +16,7 @@ use Rattle.protocol.specs.Ledger.{written, wrote-in, writer, settled}
 use Rattle.protocol.specs.Dependences.{width, is-write, in-blocks, last-by, came-upon}
 use Rattle.protocol.specs.Dependences.{depends-by-notes}
 use Rattle.protocol.specs.declared.Shape.{Shape}
-use Rattle.boards.proofs.Basics.{decide, clash, and-true, true-and, and-false, or-true}
+use Rattle.boards.proofs.Basics.{decide, clash, and-true, true-and, and-false, or-true, eqb-comm}
 use Rattle.boards.proofs.Basics.{not-true, refute, test-ext, some-any, any-some, none-any, All, none, also, false-anyOf}
 use Rattle.protocol.proofs.Accesses.{cell-touched, all-found}
 use Rattle.protocol.proofs.Marks.{Ends, keeps, undoes}
@@ -275,12 +275,7 @@ binds-now how i t x y =
 
 link-eq : (d : Links) (i j x y : ℕ) → link d i j x y ≡ d x y || (eqb i x && eqb j y)
 unfolding link
-link-eq d i j x y = ap₂ (λ a b. (a && b) || d x y) (eqb-turn x i) (eqb-turn y j) ∙ or-comm (eqb i x && eqb j y) (d x y)
-  where
-    eqb-turn : (x y : ℕ) → eqb x y ≡ eqb y x
-    eqb-turn x y =
-        test-ext (eqb x y) (eqb y x) (λ e. eq-eqb y x (sym (eqb-true x y e)))
-        (λ e. eq-eqb x y (sym (eqb-true y x e)))
+link-eq d i j x y = ap₂ (λ a b. (a && b) || d x y) (eqb-comm x i) (eqb-comm y j) ∙ or-comm (eqb i x && eqb j y) (d x y)
 
 -- two boards apart, linked, are not one
 apart : (i j x y : ℕ) → eqb i j ≡ false → eqb i x && eqb j y ≡ not (eqb x y) && (eqb i x && eqb j y)

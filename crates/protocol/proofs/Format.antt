@@ -19,7 +19,7 @@ use Rattle.protocol.specs.declared.Shape.{Shape}
 use Rattle.volatile.specs.declared.Record.{Record}
 use Rattle.boards.proofs.Basics.{decide, refute, below-suc, length-span}
 use Rattle.protocol.proofs.Bridge.{Sound, sound-bytes, limits, view-at, view-past, fits, past-header}
-use Rattle.protocol.proofs.Bridge.{length-made}
+use Rattle.protocol.proofs.Bridge.{length-made, made-append}
 
 -- ---- the header
 
@@ -47,11 +47,6 @@ header-shape s h =
 pub format-stores : (s : Shape) → length (formatting s) ≡ total s + 1
 unfolding formatting total
 format-stores s = simp (length-append, length-span) (omega arith)
-
-made-append : (ss ts : List Store) (image : List ℕ) → made (ss ++ ts) image ≡ made ts (made ss image)
-unfolding made
-made-append [] ts image = refl
-made-append (s ∷ ss) ts image = made-append ss ts _
 
 -- stores of f at n offsets from a on; where f stood below a, it stands below a + n
 abbrev ascending : (ℕ → ℕ) → ℕ → ℕ → List Store

@@ -32,12 +32,11 @@ use Rattle.boards.proofs.Basics.{or-false, none-any, All, none, also}
 use Rattle.boards.proofs.Groups.{in-commit-group, in-fault-group, Bounded, Backward, bounded-more}
 use Rattle.boards.proofs.Groups.{fault-group-backward, commit-group-self}
 use Rattle.protocol.proofs.Outcomes.{not-done, cut-not-done, not-cut}
-use Rattle.protocol.proofs.Refusals.{entered, read-passed, write-passed, start-passed, acknowledge-passed}
-use Rattle.protocol.proofs.Refusals.{entry-first}
+use Rattle.protocol.proofs.Refusals.{begun, read-passed, write-passed, start-passed, acknowledge-passed}
 use Rattle.protocol.proofs.Marks.{live-byte, byte-older}
 use Rattle.protocol.proofs.Accesses.{Outside, reading, untagged, writing}
 use Rattle.protocol.proofs.Consistent.{Consistent, Access-ok}
-use Rattle.protocol.proofs.Bridge.{Sound, Limits, limits, in-order-sound, view-decision}
+use Rattle.protocol.proofs.Bridge.{Sound, Limits, limits, board-small, in-order-sound, view-decision}
 use Rattle.protocol.proofs.Format as Format
 use Rattle.protocol.proofs.Copies.{blocks-inside, current}
 use Rattle.protocol.proofs.Safety.{Safe, idle, deciding, rollback-through, recovering-safe, write-through}
@@ -157,16 +156,6 @@ module _ {s : Shape} {w : System} (h : Sound s (w .image)) (q : w .waiting ≡ f
   positive : 0 < s .size
   positive = bound .some-size
 
-  -- the first tests of a board's call, and its own
-  begun : (i : ℕ) (ts : List Test) → first (entry-tests (w .image) (w .state) i ++ ts) ≡ 0
-      → (i < s .boards) × (first ts ≡ 0)
-  begun i ts e =
-      let both = entry-first (w .image) (w .state) i ts e in
-      (entered (w .image) (w .state) i (h .shape) (both .0) .board, both .1)
-
-  below-sixteen : {i : ℕ} → i < s .boards → i < 16
-  below-sixteen l = let most = bound .most-boards in omega arith
-
   few-links : Bounded 16 (w .ledger .links)
   few-links = bounded-more (on .consistent .bounded) (bound .most-boards)
 
@@ -175,12 +164,12 @@ module _ {s : Shape} {w : System} (h : Sound s (w .image)) (q : w .waiting ≡ f
       → Access-ok s read-binding i a n (w .ledger) × All (λ b. b < s .blocks) (touched s a n) × Ranged s a n
   unfolding refusals engaged
   read-ok i a n room e =
-      let both = begun i (read-tests s m (w .state) i a n room) e in
+      let both = begun (w .image) (w .state) i (read-tests s m (w .state) i a n room) (h .shape) e in
       let p = read-passed s m (w .state) i a n room (both .1) in
       let r = ranged s a n (p .range) in (
         record {
           positive = positive;
-          board = both .0;
+          board = both .0 .board;
           some = r .some;
           few = r .few;
           outside = outside-commits i (touched s a n) (on .commit) (p .free) (all-reading (touched s a n));
@@ -223,13 +212,13 @@ module _ {s : Shape} {w : System} (h : Sound s (w .image)) (q : w .waiting ≡ f
   unfolding refusals engaged
   write-ok i a bytes e =
       let n = length bytes in
-      let both = begun i (write-tests s m (w .state) i a n) e in
+      let both = begun (w .image) (w .state) i (write-tests s m (w .state) i a n) (h .shape) e in
       let p = write-passed s m (w .state) i a n (both .1) in
       let r = ranged s a n (p .range) in
       let tags = tags-written on (touched-below s a n positive r) in (
         record {
           positive = positive;
-          board = both .0;
+          board = both .0 .board;
           some = r .some;
           few = r .few;
           outside =
@@ -276,7 +265,7 @@ module _ {s : Shape} {w : System} (h : Sound s (w .image)) (q : w .waiting ≡ f
 
   fault-ok : (i : ℕ) → first (refusals (w .image) s m (w .state) (Fault i)) ≡ 0 → i < s .boards
   unfolding refusals
-  fault-ok i e = begun i [] (rw append-nil e) .0
+  fault-ok i e = begun (w .image) (w .state) i [] (h .shape) (rw append-nil e) .0 .board
 
   fault-ends : (i k : ℕ) → Result s (w .image) (w .state) (Fault i) k
       → Answers s w (Fault i) k × Invariant s (next s w (Fault i) k)
@@ -291,7 +280,7 @@ module _ {s : Shape} {w : System} (h : Sound s (w .image)) (q : w .waiting ≡ f
   fault-ends i k (finished e l f) = (
     λ d. (
       f .group ∙ fault-same i,
-      rw (f .group, fault-same i) (in-fault-group few-links i (below-sixteen (fault-ok i e))),
+      rw (f .group, fault-same i) (in-fault-group few-links i (board-small bound (fault-ok i e))),
     ),
     finished-on s w (Fault i) k f q
         (subst (λ g. On s (after (blocks-copied s m Recovery Current (tagged-in (fault-set i))) m)
@@ -312,17 +301,17 @@ module _ {s : Shape} {w : System} (h : Sound s (w .image)) (q : w .waiting ≡ f
       → (i < s .boards) × (length context ≡ s .context) × (has (w .state .commit .members) i ≡ true)
   unfolding refusals engaged
   acknowledge-ok i context e =
-      let both = begun i (acknowledge-tests s (w .state) i (length context)) e in
+      let both = begun (w .image) (w .state) i (acknowledge-tests s (w .state) i (length context)) (h .shape) e in
       let p = acknowledge-passed s (w .state) i (length context) (both .1) in
-      (both .0, p .full, p .member)
+      (both .0 .board, p .full, p .member)
 
   start-ok : (i : ℕ) (context : List ℕ) → first (refusals (w .image) s m (w .state) (Start i context)) ≡ 0
       → (i < s .boards) × (length context ≡ s .context) × (w .state .commit .members ≡ 0)
   unfolding refusals engaged
   start-ok i context e =
-      let both = begun i (start-tests s (w .state) (length context)) e in
+      let both = begun (w .image) (w .state) i (start-tests s (w .state) (length context)) (h .shape) e in
       let p = start-passed s (w .state) (length context) (both .1) in
-      (both .0, p .full, p .none-open)
+      (both .0 .board, p .full, p .none-open)
 
   acknowledge-ends : (i : ℕ) (context : List ℕ) (k : ℕ) → Result s (w .image) (w .state) (Acknowledge i context) k
       → Answers s w (Acknowledge i context) k × Invariant s (next s w (Acknowledge i context) k)
@@ -359,7 +348,7 @@ module _ {s : Shape} {w : System} (h : Sound s (w .image)) (q : w .waiting ≡ f
 
   start-member : (i : ℕ) → i < s .boards → has (start-state i .commit .members) i ≡ true
   unfolding opened
-  start-member i l = commit-group-self (depends (w .state)) i (let most = bound .most-boards in omega arith)
+  start-member i l = commit-group-self (depends (w .state)) i (board-small bound l)
 
   start-group : (i : ℕ) (context : List ℕ)
       → plan s m (w .state) (Start i context) .group ≡ commit-group (w .ledger .links) i
@@ -385,7 +374,7 @@ module _ {s : Shape} {w : System} (h : Sound s (w .image)) (q : w .waiting ≡ f
         (
           end .1,
           λ d. rw (f .group, start-group i context)
-              (in-commit-group few-links i (below-sixteen (ok .0))),
+              (in-commit-group few-links i (board-small bound (ok .0))),
         ),
         ended-on s w (Start i context) k f q (end .0),
       )
@@ -436,8 +425,7 @@ module _ {s : Shape} (w : System) (h : Sound s (w .image)) (q : w .waiting ≡ t
     off-refuses : (i : ℕ) (ts : List Test) → first (entry-tests (w .image) (w .state) i ++ ts) ≢ 0
     unfolding bad-record
     off-refuses i ts z =
-        true≢false (rw o at (entered (w .image) (w .state) i (h .shape)
-        (entry-first (w .image) (w .state) i ts z .0) .recorded))
+        true≢false (rw o at (begun (w .image) (w .state) i ts (h .shape) z .0 .recorded))
 
     record Refused (request : Request) (k : ℕ) : Type 0 where
       told-so : verdict (answer w request k) ≡ refused

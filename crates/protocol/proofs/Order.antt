@@ -35,15 +35,16 @@ use Rattle.boards.proofs.Groups.{commit-group-within}
 use Rattle.volatile.proofs.Order.{Orderly, orderly, orderly-record, May-acknowledge}
 use Rattle.volatile.proofs.Order.{order-opened, rows-within}
 use Rattle.volatile.proofs.Order.{depend-order, clear-order, fresh-order, awaiting-order}
-use Rattle.protocol.proofs.Refusals.{read-passed, write-passed, start-passed}
+use Rattle.protocol.proofs.Refusals.{begun, read-passed, write-passed, start-passed}
 use Rattle.protocol.proofs.Refusals.{acknowledge-passed, power-passed}
 use Rattle.protocol.proofs.Memory.{after-append, untouched}
-use Rattle.protocol.proofs.Bridge.{Sound, Limits, limits, order-sound, in-order-sound, view-decision}
+use Rattle.protocol.proofs.Bridge.{Sound, Limits, limits, board-small, order-sound, in-order-sound, view-decision}
 use Rattle.protocol.proofs.Copies.{Inside, all-placing, all-blocks, all-contexts, blocks-inside, current}
 use Rattle.protocol.proofs.Safety.{completed, decision, decision-done, idle}
-use Rattle.protocol.proofs.Demand1.{taken, turned-down, refused-as, cut-off, refused-record, same-record}
+use Rattle.protocol.proofs.Demand1.{cut-off, refused-record, same-record}
+use Rattle.protocol.proofs.Outcomes.{taken, turned-down, refused-as}
 use Rattle.protocol.proofs.Outcomes.{Result, turned-away, stopped, finished, result, not-done, cut-not-done}
-use Rattle.protocol.proofs.Plans.{begun, plan-valid, ranged, write-inside, given-inside}
+use Rattle.protocol.proofs.Plans.{plan-valid, ranged, write-inside, given-inside}
 use Rattle.protocol.proofs.Steps.{commit-binds}
 use Rattle.protocol.proofs.Consistent.{writer-below}
 use Rattle.protocol.proofs.Agreement.{On, on-idle}
@@ -250,13 +251,12 @@ module _ (s : Shape) (m : Memory) (r : Record) (limit : Limits s) (undecided : m
         given-low = all-placing Tentative (i * s .context) context (λ x v k. low-put Tentative (omega arith))
 
         meets-itself : meets g (has g) ≡ true
-        meets-itself = let most = limit .most-boards in meets-yes g (has g) i (omega arith) (a .member) (a .member)
+        meets-itself = meets-yes g (has g) i (board-small limit l) (a .member) (a .member)
 
   start-may : {i : ℕ} → i < P → Orderly P r → May-acknowledge P i (opened r i (commit-group (depends r) i))
   unfolding opened depends
   start-may {i} l o =
-      let most = limit .most-boards in
-      let small : i < 16 = omega arith in
+      let small = board-small limit l in
       record {
         on = o .on;
         rows = o .rows;
@@ -333,13 +333,13 @@ module _ (image : List ℕ) (r : Record) (small : r .commit .acknowledged < 2 ^ 
 
   passed-first : (i : ℕ) (ts : List Test) → first (entry-tests image r i ++ ts) ≡ 0 → Passed i ts
   passed-first i ts e =
-      let b = begun image r i ts e in
+      let b = begun image r i ts refl e in
       record {
-        limit = limits s (b .1 .allowed-shape);
-        undecided = view-decision (b .1) ∙ omega (arith, order-sound (b .0 .ordered) .1);
+        limit = limits s (b .0 .sound .allowed-shape);
+        undecided = view-decision (b .0 .sound) ∙ omega (arith, order-sound (b .0 .ordered) .1);
         state = orderly (s .boards) r (b .0 .recorded);
         board = b .0 .board;
-        own = b .2;
+        own = b .1;
       }
 
   plan-keeps : (request : Request) → refusal-at image r request ≡ 0 → Keeps-order s m (plan s m r request)
@@ -375,7 +375,7 @@ done-taken image r request k v =
     let n = refusal-at image r request in
     ⊎-elim
     (λ (e : eqb n 0 ≡ true). eqb-true n 0 e)
-    (λ (e : eqb n 0 ≡ false). not-done (refused-as image r request k (eqb-false n 0 e)) v)
+    (λ (e : eqb n 0 ≡ false). not-done (refused-as image refl r request (eqb-false n 0 e) k) v)
     (decide (eqb n 0))
 
 pub order-kept : Order-kept
@@ -481,9 +481,9 @@ status-clear image r request k h =
     let n = refusal-at image r request in
     ⊎-elim
     (λ (e : eqb n 0 ≡ true).
-    ap (λ o. of-state (o .reply .answer .status)) (taken image r request (eqb-true n 0 e) k) ∙ ended (ltb k _))
+    ap (λ o. of-state (o .reply .answer .status)) (taken image refl r request (eqb-true n 0 e) k) ∙ ended (ltb k _))
     (λ (e : eqb n 0 ≡ false).
-    ap (λ o. of-state (o .reply .answer .status)) (turned-down image r request (eqb-false n 0 e) k) ∙ h)
+    ap (λ o. of-state (o .reply .answer .status)) (turned-down image refl r request (eqb-false n 0 e) k) ∙ h)
     (decide (eqb n 0))
   where
     ended : (b : Bool) → of-state (cond b 9 0) ≡ false

@@ -10,11 +10,11 @@ use lib.Seq.{take-all}
 use native.Mathlib.Omega.{arith}
 use borrow.Author.Tests.{eqb-true, eqb-false, ne-eqb, ltb-true, ltb-false, lt-ltb, le-ltb}
 use Rattle.boards.specs.Lists.{anyOf}
-use Rattle.protocol.specs.Image.{Memory, Put, rank, raw, after, view}
+use Rattle.protocol.specs.Image.{Memory, Put, rank, raw, after, shape-of, view}
 use Rattle.volatile.specs.Volatile.{off}
 use Rattle.protocol.specs.Calls.{Request, first, refusals}
 use Rattle.protocol.specs.Calls.{Plan, plan, Outcome, refused as refuse, decides, executed, record-refused}
-use Rattle.protocol.specs.Calls.{perform}
+use Rattle.protocol.specs.Calls.{carried-out, perform}
 use Rattle.protocol.specs.Ledger.{Verdict, refused, done, cut}
 use Rattle.protocol.specs.Claim.{verdict}
 use Rattle.protocol.specs.declared.Shape.{Shape}
@@ -67,6 +67,26 @@ pub data Result (s : Shape) (image : List ℕ) (r : Record) (request : Request) 
       → Finished s (view s image) (plan s (view s image) r request) (perform image r request k)
       → Result s image r request k
 
+-- a request taken, or refused
+module _ {s : Shape} (image : List ℕ) (same : shape-of image ≡ s) (r : Record) (request : Request) where
+  pub taken : first (refusals image s (view s image) r request) ≡ 0 → (k : ℕ)
+      → perform image r request k ≡ carried-out s (plan s (view s image) r request) k image
+  unfolding perform
+  taken e k = rw (same, e)
+
+  pub turned-down : first (refusals image s (view s image) r request) ≢ 0 → (k : ℕ) → perform image r request k
+      ≡ refuse (first (refusals image s (view s image) r request)) image (record-refused r request)
+  unfolding perform
+  turned-down e k = rw (same, ne-eqb _ 0 e)
+
+  pub refused-as : first (refusals image s (view s image) r request) ≢ 0 → (k : ℕ)
+      → verdict (perform image r request k) ≡ refused
+  unfolding refuse verdict
+  refused-as e k =
+      let tests = refusals image s (view s image) r request in
+      let never-cut = uncut tests (refusals-uncut image s (view s image) r request) in
+      ap verdict (turned-down e k) ∙ rw (ne-eqb (first tests) 0 e, ne-eqb (first tests) 9 never-cut)
+
 module _ {s : Shape} {image : List ℕ} (h : Sound s image) (r : Record) (request : Request) (k : ℕ) where
   abbrev the-plan : Plan
   the-plan = plan s (view s image) r request
@@ -74,26 +94,11 @@ module _ {s : Shape} {image : List ℕ} (h : Sound s image) (r : Record) (reques
   abbrev number : ℕ
   number = first (refusals image s (view s image) r request)
 
-  accepted : number ≡ 0
-      → perform image r request k
-      ≡ executed k (map (raw s) (the-plan .stores)) image (the-plan .group) (the-plan .next) (the-plan .bytes)
-  unfolding perform
-  accepted e = rw (h .shape, e)
-
-  rejected : number ≢ 0 → perform image r request k ≡ refuse number image (record-refused r request)
-  unfolding perform
-  rejected e = rw (h .shape, ne-eqb number 0 e)
-
   refused-result : number ≢ 0 → Result s image r request k
-  unfolding refuse verdict
+  unfolding refuse
   refused-result e =
-      let o = rejected e in
-      turned-away
-      (ap verdict o ∙ rw (
-        ne-eqb number 0 e,
-        ne-eqb number 9
-            (uncut (refusals image s (view s image) r request) (refusals-uncut image s (view s image) r request)),
-      ))
+      let o = turned-down image (h .shape) r request e k in
+      turned-away (refused-as image (h .shape) r request e k)
       (ap (λ x. x .image) o)
       (ap (λ x. x .reply .next) o)
       (ap (λ x. x .reply .answer .decided) o)
@@ -103,7 +108,7 @@ module _ {s : Shape} {image : List ℕ} (h : Sound s image) (r : Record) (reques
       → Result s image r request k
   unfolding executed verdict
   cut-result e v l =
-      let o = accepted e in
+      let o = taken image (h .shape) r request e k in
       let ps = the-plan .stores in
       let some = take-map k (raw s) ps in
       let valid = all-take k v in
@@ -122,7 +127,7 @@ module _ {s : Shape} {image : List ℕ} (h : Sound s image) (r : Record) (reques
       → Result s image r request k
   unfolding executed verdict
   done-result e v l =
-      let o = accepted e in
+      let o = taken image (h .shape) r request e k in
       let ps = the-plan .stores in
       let all = take-map k (raw s) ps ∙ ap (map (raw s)) (take-all k ps l) in
       let long : ltb k (length (map (raw s) ps)) ≡ false = rw (length-map ps (raw s)) (le-ltb k (length ps) l) in

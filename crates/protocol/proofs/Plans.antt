@@ -1,6 +1,6 @@
 -- The plans of calls that are not refused: their puts stand in their areas, and which of them decides.
 use Prim.Native.Nat.{ℕ, suc, _+_, _-_, _*_, _/_, _%_, _≤_, _<_}
-use native.Mathlib.Nat.{mul-le-mul-right, suc-mul}
+use native.Mathlib.Nat.{le-refl}
 use mathlib.Core.Path.{_≡_, refl, sym, _∙_, ap}
 use mathlib.Core.Bool.{Bool, true, false, _||_, not, or-assoc}
 use mathlib.Core.List.{List, [], _∷_, _++_, map, append-nil}
@@ -19,10 +19,10 @@ use Rattle.protocol.specs.Calls.{recovering, decides, acknowledging, pla
 use Rattle.protocol.specs.Calls.{Request, Read, Write, Start, Acknowledge, Fault, Power-up, refusal-at}
 use Rattle.protocol.specs.declared.Shape.{Shape}
 use Rattle.boards.proofs.Basics.{or-false, All, none, also, all-append, all-cond, all-map, anyOf-false, or-right}
-use Rattle.boards.proofs.Basics.{all-take, take-append, take-map}
+use Rattle.boards.proofs.Basics.{all-take, take-append, take-map, false-and, row-fits}
 use Rattle.volatile.specs.Volatile.{commit-of, acknowledge}
 use Rattle.volatile.specs.declared.Record.{Record}
-use Rattle.protocol.proofs.Refusals.{Entered, entered, entry-first, write-passed, start-passed}
+use Rattle.protocol.proofs.Refusals.{begun, write-passed, start-passed}
 use Rattle.protocol.proofs.Refusals.{acknowledge-passed, power-passed}
 use Rattle.protocol.proofs.Bridge.{Valid, Sound, limits, order-sound}
 use Rattle.protocol.proofs.Copies.{Inside, placing-inside, blocks-inside, contexts-inside, current, recovery}
@@ -65,8 +65,11 @@ touched-below s a n positive r =
 
 -- ---- puts in their areas
 
+valid : {s : Shape} (p : Put) → Inside s p → Valid s p
+valid p h = record { body = omega arith; within = h .inside }
+
 pub inside-valid : {s : Shape} {ps : List Put} → All (Inside s) ps → All (Valid s) ps
-inside-valid = all-map (λ p h. record { body = omega arith; within = h .inside })
+inside-valid = all-map valid
 
 tagging-inside : (s : Shape) (m : Memory) (i : ℕ) (bs : List ℕ) → All (λ b. b < s .blocks) bs
     → All (Inside s) (tagging m i bs)
@@ -90,34 +93,47 @@ pub given-inside : (s : Shape) (i : ℕ) (bytes : List ℕ) → i < s .boards �
 unfolding rank size
 given-inside s i bytes l e =
     placing-inside s Tentative (i * s .context) bytes (omega arith)
-    (omega (arith, suc-mul i (s .context), mul-le-mul-right (s .context) l))
+    (omega (arith, row-fits (s .context) (s .boards) i l))
 
 decision-valid : (s : Shape) (v : ℕ) → Valid s (put Decision 0 v)
 unfolding rank size
 decision-valid s v = record { body = omega arith; within = omega arith }
 
-group-valid : (s : Shape) (i v : ℕ) → i < 2 → Valid s (put Group i v)
+pub group-valid : (s : Shape) (g : ℕ)
+    → All (Valid s) (put Group 0 (g % 256) ∷ put Group 1 (g / 256) ∷ put Decision 0 1 ∷ [])
 unfolding rank size
-group-valid s i v l = record { body = omega arith; within = l }
+group-valid s g = also (half 0 (g % 256) (omega arith)) (also (half 1 (g / 256) (omega arith)) (also (decision-valid s 1) none))
+  where
+    half : (i v : ℕ) → i < 2 → Valid s (put Group i v)
+    half i v l = record { body = omega arith; within = l }
 
-pub completing-valid : (s : Shape) (m : Memory) (g : ℕ) → All (Valid s) (completing s m g)
-unfolding completing
-completing-valid s m g =
-    all-append (inside-valid (blocks-inside s m Current Recovery (tagged-in g) recovery))
-    (all-append (inside-valid (contexts-inside s m g)) (also (decision-valid s 0) none))
+-- what holds of each put past byte 9 and of byte 9 set to 0 holds of every put of a completion and of a power-up
+module _ (s : Shape) (m : Memory) {P : Put → Type 0} (inside : (p : Put) → Inside s p → P p) (cleared : P (put Decision 0 0)) where
+  all-completing : (g : ℕ) → All P (completing s m g)
+  unfolding completing
+  all-completing g =
+      all-append (all-map inside (blocks-inside s m Current Recovery (tagged-in g) recovery))
+      (all-append (all-map inside (contexts-inside s m g (s .boards) (le-refl _))) (also cleared none))
+
+  all-first : All P (completed-first s m)
+  unfolding completed-first
+  all-first = all-cond (eqb (m Decision 0) 1) (λ e. all-completing (stored-group m)) (λ e. none)
+
+  all-recovering : All P (recovering s m)
+  unfolding recovering
+  all-recovering =
+      all-append all-first
+      (all-map inside (blocks-inside s (after (completed-first s m) m) Recovery Current tagged current))
+
+pub first-valid : (s : Shape) (m : Memory) → All (Valid s) (completed-first s m)
+first-valid s m = all-first s m valid (decision-valid s 0)
+
+pub recovering-valid : (s : Shape) (m : Memory) → All (Valid s) (recovering s m)
+recovering-valid s m = all-recovering s m valid (decision-valid s 0)
 
 pub deciding-valid : (s : Shape) (m : Memory) (g : ℕ) → All (Valid s) (deciding s m g)
 unfolding deciding
-deciding-valid s m g =
-    also (group-valid s 0 (g % 256) (omega arith))
-    (also (group-valid s 1 (g / 256) (omega arith)) (also (decision-valid s 1) (completing-valid s m g)))
-
-pub recovering-valid : (s : Shape) (m : Memory) → All (Valid s) (recovering s m)
-unfolding recovering completed-first
-recovering-valid s m =
-    all-append
-    (all-cond (eqb (m Decision 0) 1) (λ e. completing-valid s m (stored-group m)) (λ e. none))
-    (inside-valid (blocks-inside s (after (completed-first s m) m) Recovery Current tagged current))
+deciding-valid s m g = all-append (group-valid s g) (all-completing s m valid (decision-valid s 0) g)
 
 -- a context given, and with it perhaps the decision
 pub acknowledging-valid : (s : Shape) (m : Memory) (r : Record) (i : ℕ) (context : List ℕ) → i < s .boards
@@ -137,37 +153,29 @@ module _ (image : List ℕ) (r : Record) where
   abbrev memory : Memory
   memory = view shape image
 
-  -- what the first tests of a board's call give
-  pub begun : (i : ℕ) (ts : List Test) → first (entry-tests image r i ++ ts) ≡ 0
-      → Entered shape image r i × Sound shape image × (first ts ≡ 0)
-  begun i ts e =
-      let both = entry-first image r i ts e in
-      let h = entered image r i refl (both .0) in
-      (h, order-sound (h .ordered) .0, both .1)
-
   pub plan-valid : (request : Request) → refusal-at image r request ≡ 0
       → Sound shape image × All (Valid shape) (plan shape memory r request .stores)
   unfolding refusals plan rank size
-  plan-valid (Read i a n room) e = (begun i _ e .1, none)
+  plan-valid (Read i a n room) e = (begun image r i _ refl e .0 .sound, none)
   plan-valid (Write i a bytes) e =
-      let b = begun i _ e in
+      let b = begun image r i _ refl e in
       let n = length bytes in
-      let r = ranged shape a n (write-passed shape memory r i a n (b .2) .range) in
-      let blocks = touched-below shape a n (limits shape (b .1 .allowed-shape) .some-size) r in
+      let r = ranged shape a n (write-passed shape memory r i a n (b .1) .range) in
+      let blocks = touched-below shape a n (limits shape (b .0 .sound .allowed-shape) .some-size) r in
       let tags = inside-valid (tagging-inside shape memory i (touched shape a n) blocks) in
       let cells = inside-valid (placing-inside shape Current a bytes (omega arith) (r .within)) in
       -- in whichever order they are made
-      (b .1, search all-append)
+      (b .0 .sound, search all-append)
   plan-valid (Start i context) e =
-      let b = begun i _ e in
-      let full = start-passed shape r (length context) (b .2) .full in
-      (b .1, acknowledging-valid shape memory _ i context (b .0 .board) full)
+      let b = begun image r i _ refl e in
+      let full = start-passed shape r (length context) (b .1) .full in
+      (b .0 .sound, acknowledging-valid shape memory _ i context (b .0 .board) full)
   plan-valid (Acknowledge i context) e =
-      let b = begun i _ e in
-      let full = acknowledge-passed shape r i (length context) (b .2) .full in
-      (b .1, acknowledging-valid shape memory r i context (b .0 .board) full)
+      let b = begun image r i _ refl e in
+      let full = acknowledge-passed shape r i (length context) (b .1) .full in
+      (b .0 .sound, acknowledging-valid shape memory r i context (b .0 .board) full)
   plan-valid (Fault i) e =
-      (begun i [] (rw append-nil e) .1, inside-valid (blocks-inside shape memory Recovery Current _ current))
+      (begun image r i [] refl (rw append-nil e) .0 .sound, inside-valid (blocks-inside shape memory Recovery Current _ current))
   plan-valid Power-up e =
       (order-sound (power-passed image shape memory e .ordered) .0, recovering-valid shape memory)
 
@@ -178,30 +186,49 @@ unfolding anyOf
 anyOf-append t [] ys = refl
 anyOf-append t (x ∷ xs) ys = ap (λ b. t x || b) (anyOf-append t xs ys) ∙ sym (or-assoc (t x) (anyOf t xs) (anyOf t ys))
 
--- a put outside the decision byte does not
-pub indecisive : {ps : List Put} → All (λ p. rank (p .area) ≢ 1) ps → anyOf decisive ps ≡ false
-unfolding decisive
-indecisive = anyOf-false decisive (λ p h. rw (ne-eqb (rank (p .area)) 1 h))
-
-pub inside-indecisive : {s : Shape} {ps : List Put} → All (Inside s) ps → anyOf decisive ps ≡ false
-inside-indecisive h = indecisive (all-map (λ p i. omega arith) h)
-
 -- whether the stores that were made decide
 pub made-decides : (s : Shape) (k : ℕ) (ps : List Put) → All (Valid s) ps
     → anyOf decides (take k (map (raw s) ps)) ≡ anyOf decisive (take k ps)
 made-decides s k ps v = ap (anyOf decides) (take-map k (raw s) ps) ∙ decides-map s (take k ps) (all-take k v)
 
--- stores past the header's areas do not
+-- a put in its area that does not
+pub record Quiet (s : Shape) (p : Put) : Type 0 where
+  pub valid : Valid s p
+  pub calm : decisive p ≡ false
+
+pub quiet : {s : Shape} {ps : List Put} (k : ℕ) → All (Quiet s) ps → false ≡ anyOf decides (take k (map (raw s) ps))
+quiet {s} {ps} k h =
+    sym (made-decides s k ps (all-map (λ p q. q .valid) h) ∙ anyOf-false decisive (λ p q. q .calm) (all-take k h))
+
+-- one past byte 9 does not
+inside-calm : {s : Shape} (p : Put) → Inside s p → Quiet s p
+unfolding decisive
+inside-calm p h =
+    record { valid = valid p h; calm = false-and (eqb (p .value) 1) (ne-eqb (rank (p .area)) 1 (λ e. omega arith)) }
+
+pub inside-indecisive : {s : Shape} {ps : List Put} → All (Inside s) ps → anyOf decisive ps ≡ false
+inside-indecisive = anyOf-false decisive (λ p h. inside-calm p h .calm)
+
 pub inside-quiet : (s : Shape) (k : ℕ) {ps : List Put} → All (Inside s) ps
     → false ≡ anyOf decides (take k (map (raw s) ps))
-inside-quiet s k {ps} h = sym (made-decides s k ps (inside-valid h) ∙ inside-indecisive (all-take k h))
+inside-quiet s k h = quiet k (all-map inside-calm h)
+
+-- nor does any of a power-up's
+pub recovering-calm : (s : Shape) (m : Memory) → All (Quiet s) (recovering s m)
+unfolding decisive rank
+recovering-calm s m = all-recovering s m inside-calm (record { valid = decision-valid s 0; calm = refl })
+
+pub recovering-quiet : (s : Shape) (m : Memory) (k : ℕ) → false ≡ anyOf decides (take k (map (raw s) (recovering s m)))
+recovering-quiet s m k = quiet k (recovering-calm s m)
 
 module _ (s : Shape) (m : Memory) (i g : ℕ) (bytes : List ℕ) where
   announced-indecisive : (k : ℕ) → anyOf decisive (take k (announced s m i g bytes)) ≡ false
-  unfolding rank
+  unfolding decisive rank
   announced-indecisive k =
-      indecisive (all-take k (all-map (λ p h e. ⊎-elim (λ f. omega arith) (λ f. omega arith) h)
-      (announced-areas s m i g bytes)))
+      anyOf-false decisive
+      (λ p h. false-and (eqb (p .value) 1)
+      (ne-eqb (rank (p .area)) 1 (λ e. ⊎-elim (λ f. omega arith) (λ f. omega arith) h)))
+      (all-take k (announced-areas s m i g bytes))
 
   pub undecided-before : (k : ℕ) → k < length bytes + 3
       → anyOf decisive (take k (deciding-stores s m i g bytes)) ≡ false

@@ -22,6 +22,7 @@ use Rattle.protocol.specs.Calls.{entry-tests, read-tests, write-tests, s
 use Rattle.protocol.specs.Calls.{power-tests}
 use Rattle.protocol.specs.declared.Shape.{Shape}
 use Rattle.volatile.specs.declared.Record.{Record}
+use Rattle.protocol.proofs.Bridge.{Sound, order-sound}
 
 -- ---- lists of tests
 
@@ -112,6 +113,7 @@ pub record Entered (s : Shape) (image : List ℕ) (r : Record) (i : ℕ) : Type 
   pub ordered : in-order 0 image ≡ true
   pub recorded : bad-record (s .boards) r ≡ false
   pub board : i < s .boards
+  pub sound : Sound s image
 
 pub record Read-passed (s : Shape) (m : Memory) (r : Record) (i a n room : ℕ) : Type 0 where
   pub range : bad-range s a n ≡ false
@@ -150,6 +152,7 @@ entered {s} image r i e z = go (none-hold (entry-tests image r i) refl z)
           ordered = not-false (in-order 0 image) a;
           recorded = subst (λ t. bad-record (t .boards) r ≡ false) e b;
           board = subst (λ t. i < t .boards) e (leb-false (shape-of image .boards) i c);
+          sound = subst (λ t. Sound t image) e (order-sound (not-false (in-order 0 image) a) .0);
         }
 
 module _ (s : Shape) (m : Memory) (r : Record) (i a n : ℕ) where
@@ -203,6 +206,12 @@ pub entry-first : (image : List ℕ) (r : Record) (i : ℕ) (ts : List Test) →
     → (first (entry-tests image r i) ≡ 0) × (first ts ≡ 0)
 unfolding entry-tests anyOf
 entry-first image r i ts h = first-both (entry-tests image r i) ts refl h
+
+pub begun : {s : Shape} (image : List ℕ) (r : Record) (i : ℕ) (ts : List Test) → shape-of image ≡ s
+    → first (entry-tests image r i ++ ts) ≡ 0 → Entered s image r i × (first ts ≡ 0)
+begun image r i ts same e =
+    let both = entry-first image r i ts e in
+    (entered image r i same (both .0), both .1)
 
 pub entry-stops : (image : List ℕ) (r : Record) (i : ℕ) (ts : List Test) {n : ℕ} → n ≡ first (entry-tests image r i)
     → n ≢ 0 → first (entry-tests image r i ++ ts) ≡ n

@@ -225,7 +225,7 @@ module _ {s : Shape} (positive : 0 < s .size) {cell : ℕ → ℕ} {context : �
       }
 
 -- the loop over contexts reads the tentative contexts alone
-contexts-cong : (s : Shape) (g : ℕ) (m n : Memory) → ((i : ℕ) → m Tentative i ≡ n Tentative i)
+pub contexts-cong : (s : Shape) (g : ℕ) (m n : Memory) → ((i : ℕ) → m Tentative i ≡ n Tentative i)
     → for (s .boards) (context-saved s m g) ≡ for (s .boards) (context-saved s n g)
 unfolding context-saved copying
 contexts-cong s g m n e =

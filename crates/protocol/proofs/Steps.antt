@@ -32,7 +32,7 @@ use Rattle.protocol.proofs.Consistent.{Access-ok, writer-below, read-co
 use Rattle.protocol.proofs.Consistent.{cleared-rollback}
 use Rattle.protocol.proofs.Copies.{copied, placing-other, placing-outside, placing-whole}
 use Rattle.protocol.proofs.Safety.{block-below, write-tagged}
-use Rattle.protocol.proofs.Agreement.{On, agrees-clear, tag-in-same, untag-in, untag-out, rollback-in}
+use Rattle.protocol.proofs.Agreement.{On, agrees-clear, tag-noted, untag-in, untag-out, rollback-in}
 
 -- ---- the record's dependences
 
@@ -245,11 +245,6 @@ module _ {s : Shape} {m : Memory} {r : Record} {l : Ledger} (h : On s m r l) (mo
     abbrev restored : Memory
     restored = after (blocks-copied s m Recovery Current (tagged-in g)) m
 
-    -- a block's tag, seen from memory and from the notes
-    tag-noted : (b : ℕ) → b < s .blocks → (t : Bool) → tagged-in g (m Tags b) ≡ t
-        → tag-in (has g) (writer s (l .notes) b) ≡ t
-    tag-noted b k t e = sym (tag-in-same g (writer s (l .notes) b)) ∙ ap (tagged-in g) (sym (h .tags b k)) ∙ e
-
     cleared-given : (j : ℕ) → has (clear r g .commit .acknowledged) j ≡ true → has (r .commit .acknowledged) j ≡ true
     unfolding clear left-open closed
     cleared-given j e =
@@ -271,9 +266,9 @@ module _ {s : Shape} {m : Memory} {r : Record} {l : Ledger} (h : On s m r l) (mo
               rw (writer-settled s (has g) undoes (l .notes) b)
               (⊎-elim
               (λ (e : tagged-in g (m Tags b) ≡ true).
-              c .tag-zero b k e ∙ sym (untag-in (has g) (writer s (l .notes) b) (tag-noted b k true e)))
+              c .tag-zero b k e ∙ sym (untag-in (has g) (writer s (l .notes) b) (tag-noted h g b k e)))
               (λ (e : tagged-in g (m Tags b) ≡ false).
-              c .tag-left b e ∙ h .tags b k ∙ sym (untag-out (has g) (writer s (l .notes) b) (tag-noted b k false e)))
+              c .tag-left b e ∙ h .tags b k ∙ sym (untag-out (has g) (writer s (l .notes) b) (tag-noted h g b k e)))
               (decide (tagged-in g (m Tags b))));
           current =
               λ a k.
@@ -284,9 +279,9 @@ module _ {s : Shape} {m : Memory} {r : Record} {l : Ledger} (h : On s m r l) (mo
               (⊎-elim
               (λ (e : tagged-in g (m Tags b) ≡ true).
               c .cell-copied a b< e ∙ h .recovery a k ∙ sym
-              (rollback-in (writer s (l .notes) b) back order (tag-noted b b< true e)))
+              (rollback-in (writer s (l .notes) b) back order (tag-noted h g b b< e)))
               (λ (e : tagged-in g (m Tags b) ≡ false).
-              c .cell-left a e ∙ h .current a k ∙ sym (rollback-same back (tag-noted b b< false e) (order .top)))
+              c .cell-left a e ∙ h .current a k ∙ sym (rollback-same back (tag-noted h g b b< e) (order .top)))
               (decide (tagged-in g (m Tags b))));
           recovery =
               λ a k.
