@@ -1,6 +1,6 @@
 -- One block and one context: the stores of the leaves are the puts of the definitions.
 use Prim.Native.Nat.{ℕ, zero, suc, _+_, _-_, _*_, _≤_, _<_}
-use native.Mathlib.Nat.{mul-le-mul-right, suc-mul, add-zero, add-suc}
+use native.Mathlib.Nat.{add-zero, add-suc}
 use mathlib.Core.Path.{_≡_, refl, sym, subst}
 use mathlib.Core.Bool.{Bool, true, false, not, cond}
 use mathlib.Core.List.{List, [], _∷_, map-append}
@@ -14,8 +14,9 @@ use Rattle.protocol.specs.Image.{Decision, Tags, Current, Tentative, Checkpoint
 use Rattle.protocol.specs.Image.{rank, base, size, view, total}
 use Rattle.protocol.specs.Calls.{copying, block-copied, context-saved}
 use Rattle.protocol.specs.declared.Shape.{Shape}
+use Rattle.boards.proofs.Basics.{row-fits}
 use Rattle.boards.proofs.Masks.{tag-none}
-use Rattle.protocol.proofs.Copies.{Bank, current, recovery}
+use Rattle.protocol.proofs.Copies.{Bank, current, recovery, bank-size}
 use Rattle.store.specs.Budget.{Makes, one, WellBudget}
 use Rattle.store.specs.Runs.{copy-stores, shifted}
 use Rattle.store.specs.declared.Budget.{Budget}
@@ -27,24 +28,21 @@ use Rattle.layout.proofs.Laws.{tag-read}
 use Rattle.blocks.proofs.Rounds.{block-round, context-round}
 
 -- where a block stands in its bank, and how far the banks are apart
-rows-fit : (n b i : ℕ) → i < b → i * n + n ≤ b * n
-rows-fit n b i l = omega (arith, suc-mul i n, mul-le-mul-right n l)
-
 pub block-fits : (s : Shape) (b : ℕ) → b < s .blocks → b * s .size + s .size ≤ s .blocks * s .size
-block-fits s b l = rows-fit (s .size) (s .blocks) b l
+block-fits s b l = row-fits (s .size) (s .blocks) b l
 
 pub context-fits : (s : Shape) (i : ℕ) → i < s .boards → i * s .context + s .context ≤ s .boards * s .context
-context-fits s i l = rows-fit (s .context) (s .boards) i l
+context-fits s i l = row-fits (s .context) (s .boards) i l
 
 bank-at : (s : Shape) (save : Bool) (i : ℕ) → base s Current + i + cond save 0 (s .blocks * s .size) ≡ base s (bank save) + i
 unfolding bank base
 bank-at s true i = omega arith
 bank-at s false i = omega arith
 
-bank-size : (s : Shape) (save : Bool) → size s (bank save) ≡ s .blocks * s .size
-unfolding bank size
-bank-size s true = refl
-bank-size s false = refl
+bank-of : (save : Bool) → Bank (bank save)
+unfolding bank
+bank-of true = current
+bank-of false = recovery
 
 pub banks-apart : (n c : ℕ) (save : Bool) → n ≤ c → (cond save 0 c + n ≤ cond (not save) 0 c) ⊎ (cond (not save) 0 c + n ≤ cond save 0 c)
 banks-apart n c true l = inl (omega arith)
@@ -63,7 +61,7 @@ module _ {s : Shape} {x : List ℕ} (g : ℕ) (save : Bool) (b : ℕ) (l : b < s
   unfolding block-copied raw base
   block-done {r} {r′} {y} {z} {at} {from} {to} e p q t m n =
       let i = b * s .size in
-      let fits : i + s .size ≤ size s (bank save) = rw (bank-size s save) (block-fits s b l) in
+      let fits : i + s .size ≤ size s (bank save) = rw (bank-size s (bank-of save)) (block-fits s b l) in
       let same = copying-lent s x (bank save) (bank (not save)) i (s .size) at from to fits (rw (p, q) (bank-at s save i)) (rw (p, t) (bank-at s (not save) i)) in
       record {
         makes =
@@ -110,11 +108,6 @@ ranges-fit s save b l n at from to e p q t =
     let two = offset-most (not save) c in
     ((omega arith, omega arith), rw (q, t) (banks-apart (s .size) c save (omega arith)))
 
-to-bank : (save : Bool) → Bank (bank (not save))
-unfolding bank
-to-bank true = recovery
-to-bank false = current
-
 from-apart : (save : Bool) → (rank (bank save) ≢ rank (bank (not save))) × (rank (bank save) ≢ rank Tags)
 unfolding bank rank
 from-apart true = (omega arith, omega arith)
@@ -126,7 +119,7 @@ module _ {s : Shape} {x : List ℕ} (long : length x ≡ total s) {k r : Budget}
       → Puts s (for (b + 1) (block-puts s (view s x) g save)) k x r′ z
   blocks-again g save b l p q =
       rw add-one
-      (block-round long well (bank save) (bank (not save)) (tagged-in g) (to-bank save) (from-apart save .0) (from-apart save .1) b l p q)
+      (block-round long well (bank save) (bank (not save)) (tagged-in g) (bank-of (not save)) (from-apart save .0) (from-apart save .1) b l p q)
 
   -- blocks without a writer have no round
   skipped : (g : ℕ) (save : Bool) (b d : ℕ) → b + d ≤ s .blocks

@@ -15,28 +15,23 @@ use Rattle.protocol.specs.Calls.{stored-group, placing, copying, blocks-copied,
 use Rattle.protocol.specs.Calls.{completed-first, recovering}
 use Rattle.boards.specs.Boards.{tagged-in, tagged}
 use Rattle.protocol.specs.declared.Shape.{Shape}
-use Rattle.boards.proofs.Basics.{All, none, all-cond}
 use Rattle.protocol.proofs.Memory.{untouched, else-area}
-use Rattle.protocol.proofs.Bridge.{Valid}
-use Rattle.protocol.proofs.Copies.{all-blocks, recovery}
-use Rattle.protocol.proofs.Plans.{completing-valid}
+use Rattle.protocol.proofs.Copies.{all-blocks, blocks-inside, recovery}
+use Rattle.protocol.proofs.Safety.{contexts-cong}
+use Rattle.protocol.proofs.Plans.{inside-valid}
+pub use Rattle.protocol.proofs.Plans.{first-valid}
 use Rattle.store.specs.Budget.{WellBudget}
 use Rattle.store.specs.declared.Budget.{Budget}
 use Rattle.store.specs.Puts.{Puts}
 use Rattle.store.proofs.Chains.{then-puts, then-reads}
-use Rattle.blocks.proofs.Rounds.{blocks-valid}
 
 -- the contexts are read off the image after the blocks, which is the same as before them
 contexts-later : (s : Shape) (m : Memory) (chosen : ℕ → Bool) (g : ℕ)
     → for (s .boards) (context-saved s (after (blocks-copied s m Current Recovery chosen) m) g) ≡ for (s .boards) (context-saved s m g)
-unfolding context-saved copying rank
+unfolding rank
 contexts-later s m chosen g =
-    ap (λ (f : ℕ → ℕ). for (s .boards) (λ i. cond (has g i) (placing Checkpoint (i * s .context) (span f (i * s .context) (s .context))) []))
-    (fun-ext (λ j. untouched (all-blocks s m Current Recovery chosen (λ b x v l e d. else-area (λ q. omega arith)) (λ b l e. else-area (λ q. omega arith))) m))
-
-pub first-valid : (s : Shape) (m : Memory) → All (Valid s) (completed-first s m)
-unfolding completed-first
-first-valid s m = all-cond (eqb (m Decision 0) 1) (λ e. completing-valid s m (stored-group m)) (λ e. none)
+    contexts-cong s g _ m
+    (λ j. untouched (all-blocks s m Current Recovery chosen (λ b x v l e d. else-area (λ q. omega arith)) (λ b l e. else-area (λ q. omega arith))) m)
 
 module _ {s : Shape} {x : List ℕ} (long : length x ≡ total s) {b : Budget} (well : WellBudget b) where
   -- the completion of a commit
@@ -51,7 +46,7 @@ module _ {s : Shape} {x : List ℕ} (long : length x ≡ total s) {b : Budget} (
       let blocks = blocks-copied s m Current Recovery (tagged-in g) in
       subst (λ cs. Puts s (blocks ++ (cs ++ put Decision 0 0 ∷ [])) b x r″ w) (contexts-later s m (tagged-in g) g)
       (then-reads blocks (λ n. for (s .boards) (context-saved s n g) ++ put Decision 0 0 ∷ []) long
-      (blocks-valid s m Current Recovery (tagged-in g) recovery (s .blocks) (le-refl (s .blocks))) well p
+      (inside-valid (blocks-inside s m Current Recovery (tagged-in g) recovery)) well p
       (then-puts (for (s .boards) (context-saved s (view s _) g)) (put Decision 0 0 ∷ []) q t))
 
   -- a power-up: the completion of a decided commit, if there is one, then the rollback

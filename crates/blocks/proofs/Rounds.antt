@@ -1,4 +1,4 @@
--- The loops over blocks and contexts, round by round, and the puts that follow each other in a commit and a power-up.
+-- The loops over blocks and contexts, one round more.
 use Prim.Native.Nat.{ℕ, zero, suc, _+_, _*_, _≤_, _<_}
 use mathlib.Core.Path.{_≡_, refl, sym, _∙_, ap, subst, fun-ext}
 use mathlib.Core.Bool.{Bool, true, false}
@@ -10,42 +10,13 @@ use Rattle.boards.specs.Lists.{for}
 use Rattle.protocol.specs.Image.{Area, Tags, Tentative, Checkpoint, Memory, Put, put, rank, size, after, view, total}
 use Rattle.protocol.specs.Calls.{block-copied, context-saved}
 use Rattle.protocol.specs.declared.Shape.{Shape}
-use Rattle.boards.proofs.Basics.{All, all-for, all-map}
-use Rattle.protocol.proofs.Bridge.{Valid}
-use Rattle.protocol.proofs.Copies.{Bank, current, recovery, bank-rank, all-block, all-context, flat-below}
+use Rattle.protocol.proofs.Copies.{Bank, bank-rank, rounds-inside, contexts-inside}
+use Rattle.protocol.proofs.Plans.{inside-valid}
 use Rattle.store.specs.Budget.{WellBudget}
 use Rattle.store.specs.declared.Budget.{Budget}
 use Rattle.store.specs.Puts.{Puts}
 use Rattle.blocks.proofs.Laws.{block-still, context-still}
 use Rattle.store.proofs.Chains.{then-reads}
-
--- ---- puts in their areas, for any number of rounds
-
-bank-size : {to : Area} (s : Shape) → Bank to → size s to ≡ s .blocks * s .size
-unfolding size
-bank-size s current = refl
-bank-size s recovery = refl
-
-pub blocks-valid : (s : Shape) (m : Memory) (from to : Area) (chosen : ℕ → Bool) → Bank to → (n : ℕ) → n ≤ s .blocks
-    → All (Valid s) (for n (block-copied s m from to chosen))
-unfolding rank size
-blocks-valid s m from to chosen k n l =
-    let r = bank-rank k in
-    all-for n (block-copied s m from to chosen) (λ b d.
-    all-block s m from to chosen b (λ e. (
-      (λ x v y.
-          record { body = omega arith; within = rw (bank-size s k) (flat-below (s .size) (s .blocks) b x (omega arith) y) }),
-      record { body = omega arith; within = omega arith },
-    )))
-
-pub contexts-valid : (s : Shape) (m : Memory) (g n : ℕ) → n ≤ s .boards → All (Valid s) (for n (context-saved s m g))
-unfolding rank size
-contexts-valid s m g n l =
-    all-for n (context-saved s m g) (λ i d.
-    all-context s m g i (λ e x v y.
-    record { body = omega arith; within = flat-below (s .context) (s .boards) i x (omega arith) y }))
-
--- ---- one round more
 
 module _ {s : Shape} {x : List ℕ} (long : length x ≡ total s) {b r r′ : Budget} {y z : List ℕ} (well : WellBudget b) where
   pub block-round : (from to : Area) (chosen : ℕ → Bool) → Bank to → rank from ≢ rank to → rank from ≢ rank Tags → (n : ℕ) → n < s .blocks
@@ -57,7 +28,7 @@ module _ {s : Shape} {x : List ℕ} (long : length x ≡ total s) {b r r′ : Bu
       let f = block-copied s (view s x) from to chosen in
       let high = bank-rank k in
       subst (λ g. Puts s (for n f ++ g) b x r′ z) (block-still s (view s x) from to chosen apart tagged (omega arith) n)
-      (then-reads (for n f) (λ m. block-copied s m from to chosen n) long (blocks-valid s (view s x) from to chosen k n (omega arith)) well p q)
+      (then-reads (for n f) (λ m. block-copied s m from to chosen n) long (inside-valid (rounds-inside s (view s x) from to chosen k n (omega arith))) well p q)
 
   pub context-round : (g n : ℕ) → n < s .boards
       → Puts s (for n (context-saved s (view s x) g)) b x r y → Puts s (context-saved s (view s y) g n) r y r′ z
@@ -66,4 +37,4 @@ module _ {s : Shape} {x : List ℕ} (long : length x ≡ total s) {b r r′ : Bu
   context-round g n l p q =
       let f = context-saved s (view s x) g in
       subst (λ h. Puts s (for n f ++ h) b x r′ z) (context-still s (view s x) g n)
-      (then-reads (for n f) (λ m. context-saved s m g n) long (contexts-valid s (view s x) g n (omega arith)) well p q)
+      (then-reads (for n f) (λ m. context-saved s m g n) long (inside-valid (contexts-inside s (view s x) g n (omega arith))) well p q)

@@ -10,6 +10,7 @@ use lib.Seq.{take-nil}
 use native.Mathlib.Omega.{arith}
 use native.Mathlib.Nat.{not-suc-le-zero, sub-zero, zero-sub, suc-sub-suc, zero-add, add-zero, suc-add, suc-mul}
 use native.Mathlib.Nat.{mul-le-mul-right}
+use native.Mathlib.Numerals.{add-one}
 use borrow.Author.Tests.{eq-eqb, eqb-true}
 use Rattle.boards.specs.Lists.{for, span, every, any, anyOf}
 
@@ -208,6 +209,10 @@ module _ {X : Type 0} (f : ℕ → X) where
   span-append a zero n = rw (zero-add, add-zero)
   span-append a (suc m) n =
       rw suc-add (ap (λ l. f a ∷ l) (span-append (suc a) m n ∙ ap (λ b. span f (suc a) m ++ span f b n) (omega arith)))
+
+  pub span-more : (a n : ℕ) → span f a (suc n) ≡ span f a n ++ f (a + n) ∷ []
+  unfolding span
+  span-more a n = sym (ap (span f a) (add-one n)) ∙ span-append a n 1
 
   -- what holds at each of the numbers
   pub all-span : {P : X → Type 0} (a n : ℕ) → ((i : ℕ) → a ≤ i → i < a + n → P (f i)) → All P (span f a n)

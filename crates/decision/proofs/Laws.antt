@@ -20,7 +20,7 @@ use Rattle.boards.proofs.Basics.{decide, All, none, also, all-append}
 use Rattle.protocol.proofs.Bridge.{Valid}
 use Rattle.protocol.proofs.Copies.{length-placing}
 use Rattle.protocol.proofs.Safety.{deciding-stores}
-use Rattle.protocol.proofs.Plans.{given-inside, inside-valid, deciding-valid, undecided-before}
+use Rattle.protocol.proofs.Plans.{given-inside, inside-valid, group-valid, deciding-valid, undecided-before}
 use Rattle.protocol.proofs.Plans.{decided-after, made-decides, inside-quiet}
 use Rattle.layout.proofs.Laws.{bounded}
 use Rattle.store.specs.Budget.{Makes, WellBudget, one, start as whole}
@@ -38,16 +38,6 @@ use Rattle.decision.specs.Executed.{Executed}
 -- ---- bytes 10, 11 and 9, and what follows them
 abbrev group-puts : ℕ → List Put
 group-puts g = put Group 0 (g % 256) ∷ put Group 1 (g / 256) ∷ put Decision 0 1 ∷ []
-
-group-valid : (s : Shape) (g : ℕ) → All (Valid s) (group-puts g)
-unfolding rank size
-group-valid s g = also (two 0 (g % 256) (omega arith)) (also (two 1 (g / 256) (omega arith)) (also deciding-byte none))
-  where
-    two : (i v : ℕ) → i < 2 → Valid s (put Group i v)
-    two i v l = record { body = omega arith; within = l }
-
-    deciding-byte : Valid s (put Decision 0 1)
-    deciding-byte = record { body = omega arith; within = omega arith }
 
 deciding-later : (s : Shape) (m : Memory) (g : ℕ)
     → group-puts g ++ completing s (after (group-puts g) m) g ≡ deciding s m g

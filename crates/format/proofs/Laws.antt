@@ -6,7 +6,6 @@ use mathlib.Core.List.{List, [], _∷_, _++_}
 use mathlib.Core.Logic.{_≢_, ⊎-elim}
 use lib.Dec.{eqb}
 use lib.ListN.{length, getD, take, List·getD-eq-default}
-use native.Mathlib.Nat.{zero-add, add-zero, suc-add, add-suc}
 use native.Mathlib.Omega.{arith}
 use borrow.Author.Tests.{eq-eqb, ne-eqb, eqb-true}
 use Rattle.boards.specs.Lists.{anyOf, span}
@@ -20,7 +19,7 @@ use Rattle.boards.proofs.Basics.{decide, none, also, all-append, all-take, anyO
 use Rattle.store.specs.Budget.{Makes, one, start}
 use Rattle.store.specs.declared.Budget.{Budget}
 use Rattle.store.proofs.Laws.{makes-then}
-use Rattle.store.proofs.Runs.{span-more, all-span}
+use Rattle.boards.proofs.Basics.{span-append, span-more, span-same, all-span}
 use Rattle.store.specs.Promise.{Formatted, reply-of}
 use Rattle.protocol.specs.Calls.{refusal-of}
 use Rattle.store.proofs.Ends.{made-outcome}
@@ -37,18 +36,6 @@ filled-more f a i {v} {r} {r′} {y} {z} l e m n =
     let here : a + (i - a) ≡ i = omega arith in
     rw (next, span-more f a (i - a), here) (makes-then m (subst (λ (t : Store). Makes (t ∷ []) r y r′ z) e n))
 
--- a run of stores in two parts, and the second of them by another function
-span-parts : (f g : ℕ → Store) (a m n : ℕ) → ((i : ℕ) → a + m ≤ i → f i ≡ g i) → span f a (m + n) ≡ span f a m ++ span g (a + m) n
-unfolding span
-span-parts f g a zero zero h = refl
-span-parts f g a zero (suc n) h =
-    rw (zero-add, add-zero)
-    (ap₂ (λ (s : Store) (ss : List Store). s ∷ ss) (h a (omega arith))
-    (rw (zero-add, add-zero) at (span-parts f g (suc a) zero n (λ i l. h i (omega arith)))))
-span-parts f g a (suc m) n h =
-    rw (suc-add, add-suc)
-    (ap (λ (ss : List Store). f a ∷ ss) (rw suc-add at (span-parts f g (suc a) m n (λ i l. h i (omega arith)))))
-
 past-header : (s : Shape) (i : ℕ) → 9 ≤ i → header-store s i ≡ zero-store i
 unfolding header mark
 past-header s i l = ap (one i) (List·getD-eq-default (header s) 0 {n = i} (omega arith))
@@ -60,7 +47,8 @@ pub laid-out : (s : Shape) (n : ℕ) {b c d e r : Budget} {v w x y z : List ℕ}
 unfolding formatting
 laid-out s n long l m o p q =
     let size : total s - 1 ≡ 8 + (n - 9) = omega arith in
-    rw (size, span-parts (header-store s) zero-store 1 8 (n - 9) (λ i h. past-header s i (omega arith)))
+    let zeros = span-same (header-store s) zero-store 9 9 (n - 9) (λ x _. past-header s (9 + x) (omega arith)) in
+    rw (size, span-append (header-store s) 1 8 (n - 9), zeros)
     (makes-then m (makes-then (makes-then o p) q))
 
 -- ---- none decides: byte 9 is past the header and stored 0

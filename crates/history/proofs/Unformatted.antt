@@ -10,7 +10,7 @@ use lib.ListN.{length, take, set, replicate}
 use lib.Seq.{take-append-le}
 use borrow.Author.Tests.{ltb-true}
 use Rattle.boards.specs.Lists.{span, every}
-use Rattle.boards.proofs.Basics.{decide, All, none, also, all-take, length-span}
+use Rattle.boards.proofs.Basics.{decide, All, none, also, all-take, length-span, all-span}
 use Rattle.volatile.specs.Volatile.{off}
 use Rattle.volatile.specs.declared.Record.{Record}
 use Rattle.protocol.specs.Image.{allowed, total, header, mark, byte, in-order, Store, made}
@@ -71,12 +71,8 @@ front : Shape → List Store
 front s = record { at = 0; value = 0 } ∷ span (header-store s) 1 (total s - 1)
 
 front-spares : (s : Shape) → All Spares (front s)
-unfolding front span
-front-spares s = also (λ e. refl) (past 0 (total s - 1))
-  where
-    past : (a n : ℕ) → All Spares (span (header-store s) (suc a) n)
-    past a zero = none
-    past a (suc n) = also (λ (e : suc a ≡ 0). absurd (omega arith)) (past (suc a) n)
+unfolding front
+front-spares s = also (λ e. refl) (all-span (header-store s) 1 (total s - 1) (λ i l _ e. absurd (omega arith)))
 
 zeros-begin : (n : ℕ) → byte (replicate n 0) 0 ≡ 0
 zeros-begin zero = refl

@@ -7,13 +7,13 @@ use mathlib.Core.Logic.{_≢_}
 use lib.Dec.{eqb}
 use lib.ListN.{length, take, drop}
 use native.Mathlib.Omega.{arith}
-use native.Mathlib.Nat.{add-sub-cancel-left, suc-mul, mul-le-mul-right}
+use native.Mathlib.Nat.{add-sub-cancel-left}
 use borrow.Author.Tests.{eq-eqb, ne-eqb, eqb-true, le-leb, lt-leb}
 use Rattle.protocol.specs.Image.{Area, Recovery, Checkpoint, cells, contexts, base, size, total, byte, shape-of}
 use Rattle.protocol.specs.Image.{in-order, view}
 use Rattle.protocol.specs.Calls.{first, context-tests, context-part, context-status}
 use Rattle.protocol.specs.declared.Shape.{Shape}
-use Rattle.boards.proofs.Basics.{and-true, false-and, test-ext, every-at, every-all, not-true, not-false}
+use Rattle.boards.proofs.Basics.{and-true, false-and, test-ext, every-at, every-all, not-true, not-false, row-fits}
 use Rattle.protocol.proofs.Bridge.{view-at, ends-within}
 use Rattle.layout.proofs.Laws.{Geometry}
 use Rattle.inspect.specs.Same.{compare-tests, same-shape, same-area, same-areas, same-bytes, compare}
@@ -48,9 +48,7 @@ module _ (image : List ℕ) (i : ℕ) where
 pub context-ends : {s : Shape} {image : List ℕ} {at : ℕ} (i : ℕ) → Geometry 0 s image → at ≡ base s Checkpoint →
     i < s .boards → (at + i * s .context + s .context ≤ length image) × (length image < 65536)
 unfolding size
-context-ends {s} i g e l =
-    let k = s .context in
-    omega (arith, ends-within s Checkpoint, suc-mul i k, mul-le-mul-right k l)
+context-ends {s} i g e l = omega (arith, ends-within s Checkpoint, row-fits (s .context) (s .boards) i l)
 
 -- ---- Same
 

@@ -22,7 +22,7 @@ use Rattle.store.specs.Promise.{Performed, reply-of}
 use Rattle.protocol.specs.Calls.{refusal-of}
 use Rattle.store.proofs.Ends.{ended, turned}
 use Rattle.recovery.proofs.Laws.{decision-read, group-read}
-use Rattle.recovery.proofs.Quiet.{quiet, recovering-quiet}
+use Rattle.protocol.proofs.Plans.{quiet, recovering-calm as recovering-quiet}
 
 abbrev pub power-number : List ℕ → ℕ
 power-number image = first (power-tests image (shape-of image) (view (shape-of image) image))

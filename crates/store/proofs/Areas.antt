@@ -5,36 +5,23 @@ use mathlib.Core.List.{List, [], _∷_, map}
 use lib.ListN.{length, getD, drop}
 use lib.Seq.{getD-drop}
 use native.Mathlib.Omega.{arith}
+use native.Mathlib.Nat.{zero-add}
+use native.Mathlib.Numerals.{one-add}
 use Rattle.boards.specs.Lists.{span}
 use Rattle.protocol.specs.Image.{Area, base, size, view, Store, raw}
 use Rattle.protocol.specs.Calls.{placing, copying}
 use Rattle.protocol.specs.declared.Shape.{Shape}
-use Rattle.boards.proofs.Basics.{length-span, getD-span}
+use Rattle.boards.proofs.Basics.{length-span, getD-span, span-same}
 use Rattle.protocol.proofs.Bridge.{view-at}
 use Rattle.store.specs.Budget.{one}
 use Rattle.store.specs.Runs.{put-stores, copy-stores, shifted}
 
 -- ---- ranges
 
-module _ {X : Type 0} where
-  -- two ranges are equal if they are at each number
-  pub span-ext : (f g : ℕ → X) (a n : ℕ) → ((x : ℕ) → a ≤ x → x < a + n → f x ≡ g x) → span f a n ≡ span g a n
-  unfolding span
-  span-ext f g a zero h = refl
-  span-ext f g a (suc n) h =
-      ap₂ (λ x l. x ∷ l)
-      (h a (omega arith) (omega arith))
-      (span-ext f g (suc a) n (λ x l m. h x (omega arith) (omega arith)))
-
-  pub span-suc : (f : ℕ → X) (a n : ℕ) → span f (suc a) n ≡ span (λ x. f (suc x)) a n
-  unfolding span
-  span-suc f a zero = refl
-  span-suc f a (suc n) = ap (λ l. f (suc a) ∷ l) (span-suc f (suc a) n)
-
-  pub map-span : {Y : Type 0} (g : X → Y) (f : ℕ → X) (a n : ℕ) → map g (span f a n) ≡ span (λ x. g (f x)) a n
-  unfolding span
-  map-span g f a zero = refl
-  map-span g f a (suc n) = ap (λ l. g (f a) ∷ l) (map-span g f (suc a) n)
+map-span : {X Y : Type 0} (g : X → Y) (f : ℕ → X) (a n : ℕ) → map g (span f a n) ≡ span (λ x. g (f x)) a n
+unfolding span
+map-span g f a zero = refl
+map-span g f a (suc n) = ap (λ l. g (f a) ∷ l) (map-span g f (suc a) n)
 
 -- stores with equal offsets and bytes are equal
 same-one : {i j v w : ℕ} → i ≡ j → v ≡ w → one i v ≡ one j w
@@ -50,8 +37,7 @@ placing-stores s area i at (b ∷ bs) e =
     ap₂ (λ x l. x ∷ l)
     (same-one (omega arith) refl)
     (placing-stores s area (suc i) (suc at) bs (omega arith)
-    ∙ span-ext _ _ 0 (length bs) (λ x _ _. same-one (omega arith) refl)
-    ∙ sym (span-suc _ 0 (length bs)))
+    ∙ span-same _ _ 0 1 (length bs) (λ x _. rw (zero-add, one-add) (same-one (omega arith) refl)))
 
 -- ---- copy_at
 
@@ -61,8 +47,8 @@ pub shifted-copy : (image : List ℕ) (at from to n : ℕ) →
 unfolding shifted copy-stores
 shifted-copy image at from to n =
     map-span _ _ 0 n
-    ∙ span-ext _ _ 0 n
-    (λ x _ _. same-one (omega arith) (getD-drop at image (from + x) 0 ∙ ap (λ k. getD image k 0) (omega arith)))
+    ∙ span-same _ _ 0 0 n
+    (λ x _. rw zero-add (same-one (omega arith) (getD-drop at image (from + x) 0 ∙ ap (λ k. getD image k 0) (omega arith))))
 
 pub copying-stores : (s : Shape) (image : List ℕ) (from to : Area) (i n : ℕ) → i + n ≤ size s from →
     map (raw s) (copying (view s image) from to i n) ≡ copy-stores image (base s from + i) (base s to + i) n
@@ -70,11 +56,11 @@ unfolding copying put-stores copy-stores
 copying-stores s image from to i n l =
     placing-stores s to i (base s to + i) (span (view s image from) i n) refl
     ∙ rw length-span
-    (span-ext _ _ 0 n
-    (λ x _ m. same-one refl
+    (span-same _ _ 0 0 n
+    (λ x m. rw zero-add (same-one refl
     (getD-span (view s image from) i n x 0 (omega arith)
     ∙ view-at s image from (i + x) (omega arith)
-    ∙ ap (λ k. getD image k 0) (omega arith))))
+    ∙ ap (λ k. getD image k 0) (omega arith)))))
 
 -- the same as the stores of `copy_at`
 pub copying-lent : (s : Shape) (image : List ℕ) (from to : Area) (i n at f t : ℕ) → i + n ≤ size s from →

@@ -1,7 +1,7 @@
 -- Laws of lists of stores made under a budget.
 use Prim.Native.Nat.{ℕ, _+_, _-_, _≤_}
 use mathlib.Core.Path.{_≡_, refl, sym, _∙_, ap, ap₂, subst, subst⁻¹}
-use mathlib.Core.Bool.{Bool, true, false, _||_}
+use mathlib.Core.Bool.{Bool, true, false, _||_, or-assoc, or-false as or-none}
 use mathlib.Core.List.{List, [], _∷_, _++_}
 use mathlib.Core.Logic.{⊎-elim}
 use lib.Dec.{ltb}
@@ -12,7 +12,7 @@ use native.Mathlib.Nat.{sub-zero}
 use borrow.Author.Tests.{ltb-true, ltb-false, lt-ltb, le-ltb}
 use Rattle.protocol.specs.Image.{Store, made}
 use Rattle.boards.proofs.Basics.{decide, clash, or-false, or-true, true-or, or-right, take-append, test-ext}
-use Rattle.protocol.proofs.Bridge.{length-made}
+use Rattle.protocol.proofs.Bridge.{length-made, made-append}
 use Rattle.store.specs.declared.Budget.{Budget}
 use Rattle.store.specs.Budget.{spent, Makes, start, WellBudget}
 
@@ -22,18 +22,10 @@ use Rattle.store.specs.Budget.{spent, Makes, start, WellBudget}
 pub budget-ext : {b c : Budget} → b .left ≡ c .left → b .cut ≡ c .cut → b ≡ c
 budget-ext p q = ap₂ {C = Budget} (λ l t. record { left = l; cut = t }) p q
 
-or-none : (c : Bool) {t : Bool} → t ≡ false → c || t ≡ c
-or-none true p = refl
-or-none false p = p
-
-or-assoc : (a b c : Bool) → (a || b) || c ≡ a || (b || c)
-or-assoc true b c = refl
-or-assoc false b c = refl
-
 -- asking for no store spends nothing; asking for m and then for n spends as asking for both
 pub spent-none : (b : Budget) → spent 0 b ≡ b
 unfolding spent
-spent-none b = budget-ext (sub-zero _) (or-none (b .cut) (le-ltb (b .left) 0 (omega arith)))
+spent-none b = budget-ext (sub-zero _) (rw (le-ltb (b .left) 0 (omega arith)) (or-none (b .cut)))
 
 pub spent-more : (m n : ℕ) (b : Budget) → spent n (spent m b) ≡ spent (m + n) b
 unfolding spent
@@ -66,11 +58,6 @@ well-spent n b w h =
 
 -- ---- lists of stores
 
-pub made-append : (ss ts : List Store) (x : List ℕ) → made (ss ++ ts) x ≡ made ts (made ss x)
-unfolding made
-made-append [] ts x = refl
-made-append (s ∷ ss) ts x = made-append ss ts _
-
 pub makes-none : (b : Budget) (x : List ℕ) → Makes [] b x b x
 unfolding made
 makes-none b x = record { image = rw take-nil; budget = sym (spent-none b) }
@@ -91,7 +78,7 @@ unfolding spent made
 one-made s {b} x l =
     record {
       image = rw (take-all (b .left) (s ∷ []) l);
-      budget = budget-ext refl (sym (or-none (b .cut) (le-ltb _ _ l)));
+      budget = budget-ext refl (rw (le-ltb _ _ l) (sym (or-none (b .cut))));
     }
 
 module _ {ss : List Store} {b r : Budget} {x y : List ℕ} (m : Makes ss b x r y) where

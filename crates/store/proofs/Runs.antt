@@ -10,27 +10,15 @@ use native.Mathlib.Nat.{zero-add}
 use native.Mathlib.Numerals.{add-one}
 use Rattle.boards.specs.Lists.{span}
 use Rattle.protocol.specs.Image.{Store, made}
-use Rattle.boards.proofs.Basics.{All, none, also, all-take, take-map}
+use Rattle.boards.proofs.Basics.{All, all-take, take-map}
+pub use Rattle.boards.proofs.Basics.{span-more}
+use Rattle.protocol.proofs.Bridge.{made-else}
 use Rattle.store.specs.declared.Budget.{Budget}
 use Rattle.store.specs.Budget.{Makes}
 use Rattle.store.specs.Runs.{shifted}
 use Rattle.store.proofs.Laws.{makes-then}
 
 -- ---- rounds of a loop
-
-module _ {X : Type 0} (f : ℕ → X) where
-  -- one number more at the end
-  pub span-more : (a n : ℕ) → span f a (suc n) ≡ span f a n ++ f (a + n) ∷ []
-  unfolding span
-  span-more a zero = ap (λ k. f k ∷ []) (omega arith)
-  span-more a (suc n) = ap (λ l. f a ∷ l) (span-more (suc a) n ∙ ap (λ k. span f (suc a) n ++ f k ∷ []) (omega arith))
-
-  -- what holds at each of the numbers
-  pub all-span : {P : X → Type 0} (a n : ℕ) → ((i : ℕ) → a ≤ i → i < a + n → P (f i)) → All P (span f a n)
-  unfolding span
-  all-span a zero h = none
-  all-span a (suc n) h =
-      also (h a (omega arith) (omega arith)) (all-span (suc a) n (λ i l m. h i (omega arith) (omega arith)))
 
 -- the rounds so far and one more
 pub makes-round : (f : ℕ → Store) (j : ℕ) {b r r′ : Budget} {x y z : List ℕ} →
@@ -40,12 +28,6 @@ makes-round f j m n = rw (add-one, span-more f 0 j, zero-add) (makes-then m n)
 -- ---- what stores leave
 
 -- a byte that no store is made at stays
-pub made-else : (i : ℕ) {ss : List Store} (x : List ℕ) → All (λ s. s .at ≢ i) ss → getD (made ss x) i 0 ≡ getD x i 0
-unfolding made
-made-else i x none = refl
-made-else i x (also {x = s} h hs) =
-    made-else i _ hs ∙ getD-set-other x (s .at) i (s .value) 0 (λ e. h (sym e))
-
 pub makes-else : {ss : List Store} {b r : Budget} {x y : List ℕ} → Makes ss b x r y → (i : ℕ) →
     All (λ s. s .at ≢ i) ss → getD y i 0 ≡ getD x i 0
 makes-else {b} {x} m i h = ap (λ l. getD l i 0) (m .image) ∙ made-else i x (all-take (b .left) h)

@@ -7,8 +7,8 @@ use mathlib.Core.Logic.{_≢_, ⊎-elim}
 use native.Mathlib.Omega.{arith}
 use native.Mathlib.Nat.{sub-zero}
 use lib.Dec.{eqb, ltb}
-use lib.Seq.{take-nil}
-use lib.ListN.{length, take, drop, set, replicate}
+use lib.Seq.{take-append-seam, take-at}
+use lib.ListN.{length, length-take, take, drop, set, replicate}
 use borrow.Author.Tests.{eq-eqb, eqb-true, eqb-false, le-ltb}
 use Rattle.protocol.specs.Image.{Store, made, view, shape-of, raw, Current}
 use Rattle.protocol.specs.Calls.{Request, Read, first, Outcome, perform, executed, refused, refusals, read-tests, plan}
@@ -22,18 +22,12 @@ use Rattle.protocol.proofs.Bridge.{length-made}
 
 -- ---- parts
 
-pub take-front : (y z : List ℕ) → take (length y) (y ++ z) ≡ y
-take-front [] z = refl
-take-front (c ∷ y) z = ap {B = List ℕ} (λ r. c ∷ r) (take-front y z)
-
 pub take-most : (n : ℕ) (y : List ℕ) → length (take n y) ≤ n
-take-most zero y = omega arith
-take-most (suc n) [] = omega arith
-take-most (suc n) (c ∷ y) = omega (arith, take-most n y)
+take-most n y = omega (arith, length-take n y)
 
 -- an image of n bytes at the area's start that became y, as the borrow checker has it
 pub lent-image : (n : ℕ) (area y : List ℕ) → length y ≡ n → take n (take 0 area ++ (y ++ drop (n - 0) (drop 0 area))) ≡ y
-lent-image n area y l = rw (sym l) (take-front y _)
+lent-image n area y l = take-at y _ n l
 
 -- the first i bytes zero, the others as they were
 pub zeros-more : (i : ℕ) (s : List ℕ) → i < length s → set (replicate i 0 ++ drop i s) i 0 ≡ replicate (suc i) 0 ++ drop (suc i) s
@@ -146,14 +140,6 @@ module _ (image : List ℕ) (r : Record) (i a n room k : ℕ) where
       (λ (e : eqb number 0 ≡ false). rw e)
       (decide (eqb number 0))
 
-  pub read-image : perform image r (Read i a n room) k .image ≡ image
-  unfolding number perform refused executed plan made
-  read-image =
-      ⊎-elim
-      (λ (e : eqb number 0 ≡ true). rw (e, take-nil))
-      (λ (e : eqb number 0 ≡ false). rw e)
-      (decide (eqb number 0))
-
   -- the count of the bytes answered, and those bytes in the buffer
   module _ {count : ℕ} {reply : Reply} (same : reply ≡ perform image r (Read i a n room) k .reply)
       (counts : count ≡ cond (eqb (reply .answer .status) 0) n 0) where
@@ -180,7 +166,7 @@ module _ (image : List ℕ) (r : Record) (i a n room k : ℕ) where
         let long : count ≡ length (o .bytes) =
         rw e at counts ∙ sym (read-done (sym status-same ∙ eqb-true _ _ e) .0)
         in
-        rw long (take-front (o .bytes) _))
+        rw long (take-append-seam (o .bytes) _))
         (λ (e : eqb (reply .answer .status) 0 ≡ false).
         let none = read-refused (λ h. eqb-false _ _ e (status-same ∙ h)) in
         rw (rw e at counts) none)

@@ -23,8 +23,9 @@ use Rattle.digits.specs.Append.{Appends}
 use Rattle.digits.proofs.Laws.{appends-then}
 use Rattle.turns.specs.Turned.{player-of, Turns, Powered, area-size, line-room}
 use Rattle.turns.specs.declared.Turned.{Turned}
+use Rattle.protocol.proofs.Demand1.{read-stores-nothing}
 use Rattle.turns.proofs.Laws.{lent-image, outcome-of, no-bytes, perform-length, format-length, format-none}
-use Rattle.turns.proofs.Laws.{read-image, bytes-answered}
+use Rattle.turns.proofs.Laws.{bytes-answered}
 
 -- ---- rows
 
@@ -133,7 +134,7 @@ read-turn area size state i a n k number {at} {b} {buffer} {x} {reply} {r} {y} {
     subst (λ (j : ℕ). Answered (Read i a n room) (take j area) state buffer reply x) (sub-zero size) m
     in
     subst (λ (o : Outcome). Turns (ended 82 o) number at b r y z)
-    (outcome-of (perform image state (Read i a n room) k) (q .reply k) (sym (read-image image state i a n room k))
+    (outcome-of (perform image state (Read i a n room) k) (q .reply k) (sym (read-stores-nothing image state i a n room k))
     (bytes-answered image state i a n room k (q .reply k) c buffer (q .buffer k))) t
 
 -- ---- formats

@@ -13,7 +13,8 @@ use Rattle.store.specs.declared.Budget.{Budget}
 use Rattle.store.specs.Budget.{Makes, one}
 use Rattle.store.specs.Runs.{copy-stores}
 use Rattle.store.proofs.Laws.{makes-none, makes-length}
-use Rattle.store.proofs.Runs.{all-span, makes-round, makes-else}
+use Rattle.boards.proofs.Basics.{all-span}
+use Rattle.store.proofs.Runs.{makes-round, makes-else}
 use Rattle.store.proofs.copy.Statement.{statement}
 use Rattle.store.proofs.copy.Tie as tie
 
