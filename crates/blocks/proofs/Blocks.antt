@@ -1,7 +1,7 @@
 -- One block and one context: the stores of the leaves are the puts of the definitions.
 use Prim.Native.Nat.{ℕ, zero, suc, _+_, _-_, _*_, _≤_, _<_}
 use native.Mathlib.Nat.{add-zero, add-suc}
-use mathlib.Core.Path.{_≡_, refl, sym, subst}
+use mathlib.Core.Path.{_≡_, sym, subst}
 use mathlib.Core.Bool.{Bool, true, false, not, cond}
 use mathlib.Core.List.{List, [], _∷_, map-append}
 use mathlib.Core.Logic.{_⊎_, inl, inr, _≢_}
@@ -119,7 +119,8 @@ module _ {s : Shape} {x : List ℕ} (long : length x ≡ total s) {k r : Budget}
       → Puts s (for (b + 1) (block-puts s (view s x) g save)) k x r′ z
   blocks-again g save b l p q =
       rw add-one
-      (block-round long well (bank save) (bank (not save)) (tagged-in g) (bank-of (not save)) (from-apart save .0) (from-apart save .1) b l p q)
+      (block-round long well (bank save) (bank (not save)) (tagged-in g) (bank-of (not save)) (from-apart save .0)
+      (from-apart save .1) b l p q)
 
   -- blocks without a writer have no round
   skipped : (g : ℕ) (save : Bool) (b d : ℕ) → b + d ≤ s .blocks

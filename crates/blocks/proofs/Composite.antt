@@ -1,17 +1,14 @@
 -- The parts of a commit and of a power-up, one after the other, are the plans of the definitions.
-use Prim.Native.Nat.{ℕ, _+_, _*_}
-use mathlib.Core.Path.{_≡_, ap, subst, fun-ext}
-use mathlib.Core.Bool.{Bool, cond}
+use Prim.Native.Nat.{ℕ}
+use mathlib.Core.Path.{_≡_, subst}
+use mathlib.Core.Bool.{Bool}
 use mathlib.Core.List.{List, [], _∷_, _++_}
 use native.Mathlib.Omega.{arith}
-use native.Mathlib.Nat.{le-refl}
-use lib.Dec.{eqb}
 use lib.ListN.{length}
-use Rattle.boards.specs.Lists.{for, span}
-use Rattle.boards.specs.Boards.{has}
-use Rattle.protocol.specs.Image.{Decision, Current, Recovery, Checkpoint, Memory}
+use Rattle.boards.specs.Lists.{for}
+use Rattle.protocol.specs.Image.{Decision, Current, Recovery, Memory}
 use Rattle.protocol.specs.Image.{put, rank, after, view, total}
-use Rattle.protocol.specs.Calls.{stored-group, placing, copying, blocks-copied, context-saved, completing}
+use Rattle.protocol.specs.Calls.{blocks-copied, context-saved, completing}
 use Rattle.protocol.specs.Calls.{completed-first, recovering}
 use Rattle.boards.specs.Boards.{tagged-in, tagged}
 use Rattle.protocol.specs.declared.Shape.{Shape}
@@ -31,7 +28,8 @@ contexts-later : (s : Shape) (m : Memory) (chosen : ℕ → Bool) (g : ℕ)
 unfolding rank
 contexts-later s m chosen g =
     contexts-cong s g _ m
-    (λ j. untouched (all-blocks s m Current Recovery chosen (λ b x v l e d. else-area (λ q. omega arith)) (λ b l e. else-area (λ q. omega arith))) m)
+    (λ j. untouched (all-blocks s m Current Recovery chosen (λ b x v l e d. else-area (λ q. omega arith))
+    (λ b l e. else-area (λ q. omega arith))) m)
 
 module _ {s : Shape} {x : List ℕ} (long : length x ≡ total s) {b : Budget} (well : WellBudget b) where
   -- the completion of a commit

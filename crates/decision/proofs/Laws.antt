@@ -10,13 +10,13 @@ use native.Mathlib.Omega.{arith}
 use borrow.Author.Tests.{eq-eqb, ne-eqb, ltb-true, ltb-false}
 use Rattle.boards.specs.Lists.{anyOf}
 use Rattle.protocol.specs.Image.{Decision, Group, Tentative, Memory, Put, put, raw, base, allowed, total, view}
-use Rattle.protocol.specs.Image.{rank, size, change, after}
+use Rattle.protocol.specs.Image.{rank, change, after}
 use Rattle.volatile.specs.Volatile.{commit-of, acknowledge, clear}
 use Rattle.protocol.specs.Calls.{placing, copying, block-copied, blocks-copied, context-saved, completing, deciding}
 use Rattle.protocol.specs.Calls.{acknowledging, decides}
 use Rattle.protocol.specs.declared.Shape.{Shape}
 use Rattle.volatile.specs.declared.Record.{Record}
-use Rattle.boards.proofs.Basics.{decide, All, none, also, all-append}
+use Rattle.boards.proofs.Basics.{decide, All, all-append}
 use Rattle.protocol.proofs.Bridge.{Valid}
 use Rattle.protocol.proofs.Copies.{length-placing}
 use Rattle.protocol.proofs.Safety.{deciding-stores}

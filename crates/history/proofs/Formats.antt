@@ -1,12 +1,12 @@
 -- How an F within the limits ends, and its turn.
 use Prim.Native.Nat.{ℕ}
-use mathlib.Core.Path.{_≡_, refl, sym, _∙_, ap, subst}
-use mathlib.Core.Bool.{true, false, cond}
+use mathlib.Core.Path.{_≡_, sym, _∙_, ap}
+use mathlib.Core.Bool.{true, false}
 use mathlib.Core.List.{[], _∷_}
 use mathlib.Core.Logic.{⊎-elim}
 use lib.Dec.{eqb, ltb}
 use lib.ListN.{length, length-replicate}
-use borrow.Author.Tests.{eq-eqb, eqb-true}
+use borrow.Author.Tests.{eq-eqb}
 use Rattle.boards.proofs.Basics.{decide}
 use Rattle.volatile.specs.Volatile.{fresh}
 use Rattle.protocol.specs.Image.{allowed, total}
@@ -14,7 +14,7 @@ use Rattle.protocol.specs.Calls.{Power-up, Outcome, first, perform, refused, ex
 use Rattle.protocol.specs.Ledger.{done, cut, refused as turned-away}
 use Rattle.protocol.specs.Claim.{verdict}
 use Rattle.protocol.specs.declared.Shape.{Shape}
-use Rattle.protocol.proofs.Outcomes.{not-done, not-cut, cut-not-done}
+use Rattle.protocol.proofs.Outcomes.{not-done, not-cut, done-status, cut-status}
 use Rattle.text.specs.Turns.{Player, uncut, row, moved, ended, play}
 use Rattle.history.specs.History.{zeros, begun, Formats-anew}
 
@@ -51,27 +51,11 @@ formats-anew = record { turns = λ s p fine. rw fine; not-refused = not-refused 
 -- the turn of a call that is done, and of one that is cut
 module _ (letter : ℕ) (o : Outcome) where
   pub ended-done : verdict o ≡ done → ended letter o ≡ record { rows = row letter o ∷ []; next = moved o }
-  unfolding ended verdict
-  ended-done v =
-      let n = o .reply .answer .status in
-      ⊎-elim
-      (λ (e : eqb n 9 ≡ true).
-      cut-not-done
-      (subst (λ (m : ℕ). cond (eqb m 0) done (cond (eqb m 9) cut turned-away) ≡ cut) (sym (eqb-true n 9 e)) refl) v)
-      (λ (e : eqb n 9 ≡ false). rw e)
-      (decide (eqb n 9))
+  unfolding ended
+  ended-done v = let e : eqb (o .reply .answer .status) 9 ≡ false = ap (λ n. eqb n 9) (done-status o v) in rw e
 
   pub ended-cut : verdict o ≡ cut →
       let u = perform (o .image) (o .reply .next) Power-up uncut in
       ended letter o ≡ record { rows = row letter o ∷ row 85 u ∷ []; next = moved u }
-  unfolding ended verdict
-  ended-cut v =
-      let n = o .reply .answer .status in
-      ⊎-elim
-      (λ (e : eqb n 9 ≡ true). rw e)
-      (λ (e : eqb n 9 ≡ false).
-      ⊎-elim
-      (λ (z : eqb n 0 ≡ true). cut-not-done v (rw z))
-      (λ (z : eqb n 0 ≡ false). not-cut (rw (z, e)) v)
-      (decide (eqb n 0)))
-      (decide (eqb n 9))
+  unfolding ended
+  ended-cut v = let e : eqb (o .reply .answer .status) 9 ≡ true = ap (λ n. eqb n 9) (cut-status o v) in rw e

@@ -13,8 +13,8 @@ use native.Mathlib.Nat.{add-suc, not-suc-le-zero}
 use borrow.Author.Tests.{eq-eqb, eqb-true, leb-true, lt-leb, lt-ltb, le-ltb, ltb-true, ltb-false}
 use Rattle.boards.specs.Lists.{span, every, any}
 use Rattle.protocol.specs.Image.{Area, Header, Decision, Group, Tags, Current, Recovery, Tentative, Checkpoint}
-use Rattle.protocol.specs.Image.{contexts, allowed, total, base, size, rank, mark, byte, shape-of}
-use Rattle.protocol.specs.Image.{in-order, view, Store, made, Put, put, raw, change, after}
+use Rattle.protocol.specs.Image.{allowed, total, base, size, rank, mark, byte, shape-of}
+use Rattle.protocol.specs.Image.{in-order, view, Store, made, Put, raw, change, after}
 use Rattle.protocol.specs.Calls.{decides, first, context-tests, context-status, context-part}
 use Rattle.protocol.specs.declared.Shape.{Shape}
 use Rattle.boards.proofs.Basics.{decide, clash, and-true, true-and, test-ext, if-true, if-false, below-suc}
@@ -223,7 +223,8 @@ made-append [] ts image = refl
 made-append (s ∷ ss) ts image = made-append ss ts _
 
 -- a byte that no store is made at stays
-pub made-else : (i : ℕ) {ss : List Store} (image : List ℕ) → All (λ s. s .at ≢ i) ss → byte (made ss image) i ≡ byte image i
+pub made-else : (i : ℕ) {ss : List Store} (image : List ℕ) → All (λ s. s .at ≢ i) ss →
+    byte (made ss image) i ≡ byte image i
 unfolding made
 made-else i image none = refl
 made-else i image (also {x = s} h hs) =

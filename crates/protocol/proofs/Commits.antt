@@ -1,7 +1,7 @@
 -- Starts and acknowledgements: the context given, the decision, the completion.
 use Prim.Native.Nat.{ℕ, _+_, _-_, _*_, _/_, _≤_, _<_}
 use mathlib.Core.Path.{_≡_, refl, sym, _∙_, ap, subst}
-use mathlib.Core.Bool.{Bool, true, false, cond}
+use mathlib.Core.Bool.{true, false, cond}
 use mathlib.Core.List.{List, [], _∷_, map}
 use mathlib.Core.Logic.{⊎-elim, _≢_}
 use lib.Dec.{eqb, ltb}
@@ -23,7 +23,7 @@ use Rattle.boards.proofs.Basics.{decide, clash, or-true, All, also}
 use Rattle.boards.proofs.Groups.{Forward, Bounded, has-zero, has-with, no-beyond, set-split, commit-group-self}
 use Rattle.boards.proofs.Groups.{commit-group-small, commit-group-below}
 use Rattle.volatile.proofs.Records.{depends-clear}
-use Rattle.protocol.proofs.Marks.{marks, live, saved, settle, tag-in, marks-settled, writer-settled, keeps}
+use Rattle.protocol.proofs.Marks.{marks, live, saved, settle, marks-settled, writer-settled, keeps}
 use Rattle.protocol.proofs.Marks.{commit-saved, commit-reads}
 use Rattle.protocol.proofs.Consistent.{started-ok, handed-ok, decided-ok}
 use Rattle.protocol.proofs.Copies.{placing-other, placing-outside, placing-whole, flat-split}

@@ -1,26 +1,26 @@
 -- What the memory is after the puts of a copying loop, whole and cut after any number of them.
 use Prim.Native.Nat.{ℕ, zero, suc, _+_, _-_, _*_, _/_, _%_, _≤_, _<_}
 use mathlib.Core.Path.{_≡_, refl, sym, _∙_, ap, subst}
-use mathlib.Core.Bool.{Bool, true, false, _&&_, cond}
+use mathlib.Core.Bool.{Bool, true, false}
 use mathlib.Core.List.{List, [], _∷_, _++_}
 use mathlib.Core.Logic.{_≢_, _⊎_, inl, inr, ⊎-elim}
-use lib.Dec.{eqb, ltb, leb}
-use lib.ListN.{length, getD, take, length-append, length-take}
-use lib.Seq.{take-all, take-length, take-nil, take-append-le, getD-take}
+use lib.Dec.{ltb, leb}
+use lib.ListN.{length, getD, take, length-append}
+use lib.Seq.{take-all, take-length, take-append-le}
 use native.Mathlib.Omega.{arith}
 use native.Mathlib.Nat.{not-suc-le-zero, mul-add-div-right, div-eq-of-lt, div-add-mod', mod-lt}
-use native.Mathlib.Nat.{sub-zero, zero-sub, suc-sub-suc, add-zero, le-refl}
-use borrow.Author.Tests.{eqb-true, leb-true, leb-false, ltb-true, ltb-false}
+use native.Mathlib.Nat.{add-zero, le-refl}
+use borrow.Author.Tests.{leb-true, leb-false, ltb-true, ltb-false}
 use Rattle.boards.specs.Lists.{for, span}
 use Rattle.boards.specs.Boards.{has}
 use Rattle.protocol.specs.Image.{Area, Tags, Current, Recovery, Tentative, Checkpoint, Memory, Put, put, rank}
 use Rattle.protocol.specs.Image.{size, cells, change, after}
 use Rattle.protocol.specs.Calls.{placing, copying, block-copied, blocks-copied, context-saved}
 use Rattle.protocol.specs.declared.Shape.{Shape}
-use Rattle.boards.proofs.Basics.{decide, clash, and-true, refute, true-and, if-true, if-false, eqb-same, below-suc, All}
-use Rattle.boards.proofs.Basics.{none, also, all-append, all-cond, all-for, all-map, length-span, getD-span, all-take}
-use Rattle.boards.proofs.Basics.{take-append, take-map, row-fits}
-use Rattle.protocol.proofs.Memory.{Away, after-append, after-local, change-area, change-away, change-index}
+use Rattle.boards.proofs.Basics.{decide, clash, if-true, below-suc, All}
+use Rattle.boards.proofs.Basics.{none, also, all-append, all-cond, all-for, length-span, getD-span, all-take}
+use Rattle.boards.proofs.Basics.{take-append, row-fits}
+use Rattle.protocol.proofs.Memory.{Away, after-append, after-local, change-area}
 use Rattle.protocol.proofs.Memory.{change-same, else-area, else-index, untouched}
 
 -- k puts of a loop are `part` puts of round b, all of them if all of the loop's are made, at each place that no other
@@ -170,11 +170,7 @@ pub record Partly (s : Shape) (from to : Area) (chosen : ℕ → Bool) (m m′ :
 
 -- all puts of the loop
 pub record Copied (s : Shape) (from to : Area) (chosen : ℕ → Bool) (m m′ : Memory) : Type 0 where
-  pub other : (a : Area) → rank a ≢ rank Tags → rank a ≢ rank to → (i : ℕ) → m′ a i ≡ m a i
-  pub tag-left : (b : ℕ) → chosen (m Tags b) ≡ false → m′ Tags b ≡ m Tags b
-  pub cell-left : (a : ℕ) → chosen (m Tags (a / s .size)) ≡ false → m′ to a ≡ m to a
-  pub tag-above : (b : ℕ) → s .blocks ≤ b → m′ Tags b ≡ m Tags b
-  pub cell-above : (a : ℕ) → s .blocks ≤ a / s .size → m′ to a ≡ m to a
+  pub some : Partly s from to chosen m m′
   pub tag-zero : (b : ℕ) → b < s .blocks → chosen (m Tags b) ≡ true → m′ Tags b ≡ 0
   pub cell-copied : (a : ℕ) → a / s .size < s .blocks → chosen (m Tags (a / s .size)) ≡ true → m′ to a ≡ m from a
 
@@ -292,13 +288,9 @@ module _
     pub copied : Copied s from to chosen m (after (blocks-copied s m from to chosen) m)
     unfolding blocks-copied
     copied =
-        let p = subst (λ ps. Partly s from to chosen m (after ps m)) (take-length loop) (partly-copied (length loop)) in
         record {
-          other = p .other;
-          tag-left = p .tag-left;
-          cell-left = p .cell-left;
-          tag-above = p .tag-above;
-          cell-above = p .cell-above;
+          some =
+              subst (λ ps. Partly s from to chosen m (after ps m)) (take-length loop) (partly-copied (length loop));
           tag-zero = λ b l e. round-whole (s .blocks) round-of b l Tags b (other-tag b) m ∙ round-tag b e;
           cell-copied = λ a l e. round-whole (s .blocks) round-of _ l to a (other-cell _ a refl) m
               ∙ round-cell _ e a refl;
@@ -380,7 +372,8 @@ module _ (s : Shape) (m : Memory) where
       all-for n (block-copied s m from to chosen) (λ b l.
       all-block s m from to chosen b (λ e. (
         (λ x v d.
-            record { past = omega arith; inside = rw (bank-size s k) (flat-below (s .size) (s .blocks) b x (omega arith) d) }),
+            let cell = flat-below (s .size) (s .blocks) b x (omega arith) d in
+            record { past = omega arith; inside = rw (bank-size s k) cell }),
         record { past = omega arith; inside = omega arith },
       )))
 

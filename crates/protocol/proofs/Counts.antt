@@ -1,7 +1,7 @@
 -- How many stores a commit makes (document 01: 4 + m × (S + 1) + g × K after the context) and a format.
 use Prim.Native.Nat.{ℕ, zero, suc, _+_, _*_}
-use mathlib.Core.Path.{_≡_, refl, _∙_, ap}
-use mathlib.Core.Bool.{Bool, true, false, cond}
+use mathlib.Core.Path.{_≡_, _∙_, ap}
+use mathlib.Core.Bool.{Bool, true, false}
 use mathlib.Core.List.{List, [], _∷_, _++_}
 use mathlib.Core.Logic.{⊎-elim}
 use lib.ListN.{length, length-append}
@@ -12,7 +12,7 @@ use Rattle.protocol.specs.Image.{Area, Decision, Tags, Current, Recovery
 use Rattle.protocol.specs.Calls.{copying, block-copied, blocks-copied, context-saved, completing, deciding}
 use Rattle.protocol.specs.declared.Shape.{Shape}
 use Rattle.boards.proofs.Basics.{decide}
-pub use Rattle.boards.proofs.Groups.{count}
+unfoldable pub use Rattle.boards.proofs.Groups.{count}
 use Rattle.protocol.proofs.Copies.{length-copying}
 
 -- a loop whose rounds have c elements each where the test passes, and else none

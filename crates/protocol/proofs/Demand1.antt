@@ -1,7 +1,7 @@
 -- The second half of demand 1: a refused call changes nothing, any other makes and counts the first of its stores.
-use Prim.Native.Nat.{ℕ, zero, suc, _+_, _-_, _≤_, _<_}
+use Prim.Native.Nat.{ℕ, _-_, _≤_, _<_}
 use mathlib.Core.Path.{_≡_, refl, _∙_, ap, subst}
-use mathlib.Core.Bool.{true, false, not, cond}
+use mathlib.Core.Bool.{true, false, cond}
 use mathlib.Core.List.{List, [], map}
 use mathlib.Core.Logic.{⊎-elim, _≢_}
 use lib.Dec.{eqb, ltb}
@@ -9,12 +9,12 @@ use lib.ListN.{length, take}
 use lib.Seq.{take-nil, take-all, length-take-le}
 use native.Mathlib.Omega.{arith}
 use borrow.Author.Tests.{eqb-true, eqb-false, ne-eqb, ltb-true, ltb-false, lt-ltb, le-ltb, lt-leb}
-use Rattle.boards.specs.Lists.{anyOf, span}
+use Rattle.boards.specs.Lists.{anyOf}
 use Rattle.protocol.specs.Image.{Store, Put, shape-of, view, made, raw, total, byte, header}
 use Rattle.volatile.specs.Volatile.{fresh, off}
 use Rattle.protocol.specs.Calls.{Request, Read, Write, Start, Acknowledge, Fault, Power-up, first, refusals}
 use Rattle.protocol.specs.Calls.{plan, Outcome, refused as refuse, decides, executed, record-refused, refusal-at}
-use Rattle.protocol.specs.Calls.{carried-out, perform, format-tests, formatting, format}
+use Rattle.protocol.specs.Calls.{perform, format-tests, formatting, format}
 use Rattle.protocol.specs.Ledger.{Verdict, refused, done, cut, Ledger, update, effect, commit-effect}
 use Rattle.protocol.specs.Claim.{verdict}
 use Rattle.protocol.specs.Demand1.{ends-as, Proper, refusing, storing, Demand-1}
@@ -122,7 +122,8 @@ format-proper s image r =
     inside (also a (also b none)) =
         let long = eqb-true (length image) (total s) (not-false _ b) in
         also {x = record { at = 0; value = 0 }} (omega arith)
-        (all-append (all-span (λ i. record { at = i; value = byte (header s) i }) 1 (total s - 1) (λ i from below. omega arith))
+        (all-append
+        (all-span (λ i. record { at = i; value = byte (header s) i }) 1 (total s - 1) (λ i from below. omega arith))
         (also {x = record { at = 0; value = _ }} (omega arith) none))
 
 -- a refused request hands its record back, but for a power-up

@@ -1,32 +1,30 @@
 -- Demand 3: what the invariant gives at each point of every list of calls, from a finished format on.
 use Prim.Native.Nat.{ℕ, _+_, _*_, _<_, suc}
 use mathlib.Core.Path.{_≡_, refl, sym, _∙_, ap}
-use mathlib.Core.Bool.{true, false, not}
+use mathlib.Core.Bool.{false, not}
 use mathlib.Core.List.{List, [], _∷_}
-use mathlib.Core.Logic.{_⊎_, ⊎-elim}
 use lib.Dec.{eqb}
 use lib.ListN.{length-replicate, getD-replicate}
 use lib.Seq.{ext-getD}
 use lib.Pow.{pow-pos}
 use native.Mathlib.Omega.{arith}
-use borrow.Author.Tests.{eqb-true}
 use Rattle.boards.specs.Lists.{span}
 use Rattle.boards.specs.Boards.{unlinked}
 use Rattle.protocol.specs.Image.{Decision, Tags, Current, Recovery, Checkpoint, rank, view, byte, base}
 use Rattle.protocol.specs.Image.{size}
 use Rattle.volatile.specs.Volatile.{closed, fresh}
-use Rattle.protocol.specs.Calls.{format, Outcome}
+use Rattle.protocol.specs.Calls.{format}
 use Rattle.protocol.specs.Ledger.{done, blank, writer}
-use Rattle.protocol.specs.Claim.{verdict, System, Call, answer, next, formatted, Holds}
+use Rattle.protocol.specs.Claim.{verdict, System, Call, next, formatted, Holds}
 use Rattle.protocol.specs.Claim.{Faithful, end, and-then, Demand-3, Format-done}
 use Rattle.protocol.specs.declared.Shape.{Shape}
 use Rattle.volatile.specs.declared.Record.{Record}
-use Rattle.boards.proofs.Basics.{decide, clash}
+use Rattle.boards.proofs.Basics.{clash}
 use Rattle.boards.proofs.Basics.{getD-span, length-span}
 use Rattle.boards.proofs.Groups.{has-zero}
 use Rattle.volatile.proofs.Records.{depends-fresh}
 use Rattle.volatile.proofs.Order.{fresh-order, orderly-record, orderly}
-use Rattle.protocol.proofs.Outcomes.{not-done, cut-not-done}
+use Rattle.protocol.proofs.Outcomes.{done-status}
 use Rattle.protocol.proofs.Marks.{marks, live, saved, live-byte}
 use Rattle.protocol.proofs.Consistent.{blank-ok, clean-reads}
 use Rattle.protocol.proofs.Bridge.{Sound, view-at, view-decision, context-of, limits}
@@ -106,24 +104,11 @@ faithful {s} w (c ∷ cs) i r =
 
 -- ---- the beginning
 
-format-status : (o : Outcome) → verdict o ≡ done → o .reply .answer .status ≡ 0
-unfolding verdict
-format-status o v =
-    let n = o .reply .answer .status in
-    ⊎-elim
-    (λ (e : eqb n 0 ≡ true). eqb-true n 0 e)
-    (λ (e : eqb n 0 ≡ false).
-    ⊎-elim
-    (λ (f : eqb n 9 ≡ true). cut-not-done refl (rw (e, f) at v))
-    (λ (f : eqb n 9 ≡ false). not-done refl (rw (e, f) at v))
-    (decide (eqb n 9)))
-    (decide (eqb n 0))
-
 formatted-on : (s : Shape) (image : List ℕ) (r : Record) (k : ℕ) → verdict (format s image r k) ≡ done
     → Invariant s (formatted s image r k)
 unfolding formatted blank rank unlinked marks live saved writer fresh closed
 formatted-on s image r k v =
-    let f = Format.formatted s image r k (format-status (format s image r k) v) in
+    let f = Format.formatted s image r k (done-status (format s image r k) v) in
     let zeros = f .1 in
     up (f .0) refl
     (rw (f .2)
@@ -145,7 +130,7 @@ formatted-ready : (s : Shape) (image : List ℕ) (r : Record) (k : ℕ) → verd
     → Ready s (formatted s image r k)
 unfolding formatted fresh closed
 formatted-ready s image r k v =
-    let f = Format.formatted s image r k (format-status (format s image r k) v) in
+    let f = Format.formatted s image r k (done-status (format s image r k) v) in
     rw (f .2) (record { small = pow-pos 16; state = λ q. orderly-record (fresh-order (s .boards)) })
 
 pub demand-3 : Demand-3

@@ -1,6 +1,6 @@
 -- What a done call leaves in order: header, record and tags; that where they are so no call is refused by 11 or 12;
 -- and both at every point of a list.
-use Prim.Native.Nat.{ℕ, zero, suc, _+_, _*_, _^_, _≤_, _<_}
+use Prim.Native.Nat.{ℕ, zero, suc, _*_, _^_, _≤_, _<_}
 use mathlib.Core.Path.{_≡_, refl, sym, _∙_, ap, subst}
 use mathlib.Core.Bool.{Bool, true, false, _&&_, _||_, not, cond}
 use mathlib.Core.List.{List, [], _∷_, _++_, map, append-nil}
@@ -38,7 +38,8 @@ use Rattle.volatile.proofs.Order.{depend-order, clear-order, fresh-order, await
 use Rattle.protocol.proofs.Refusals.{begun, read-passed, write-passed, start-passed}
 use Rattle.protocol.proofs.Refusals.{acknowledge-passed, power-passed}
 use Rattle.protocol.proofs.Memory.{after-append, untouched}
-use Rattle.protocol.proofs.Bridge.{Sound, Limits, limits, board-small, order-sound, in-order-sound, view-decision}
+use Rattle.protocol.proofs.Bridge.{Sound, Limits, limits, board-small, order-sound}
+use Rattle.protocol.proofs.Bridge.{in-order-sound, view-decision}
 use Rattle.protocol.proofs.Copies.{Inside, all-placing, all-blocks, all-contexts, blocks-inside, current}
 use Rattle.protocol.proofs.Safety.{completed, decision, decision-done, idle}
 use Rattle.protocol.proofs.Demand1.{cut-off, refused-record, same-record}

@@ -164,3 +164,31 @@ module _ {X : Type 0} {v : Verdict} where
 
   pub not-cut : v ≡ refused → v ≡ cut → X
   not-cut p q = let z : _≡_ {A = ℕ} 0 1 = cc in absurd (omega arith)
+
+-- a verdict tells its status
+module _ (o : Outcome) where
+  pub done-status : verdict o ≡ done → o .reply .answer .status ≡ 0
+  unfolding verdict
+  done-status v =
+      let n = o .reply .answer .status in
+      ⊎-elim
+      (λ (e : eqb n 0 ≡ true). eqb-true n 0 e)
+      (λ (e : eqb n 0 ≡ false).
+      ⊎-elim
+      (λ (f : eqb n 9 ≡ true). cut-not-done refl (rw (e, f) at v))
+      (λ (f : eqb n 9 ≡ false). not-done refl (rw (e, f) at v))
+      (decide (eqb n 9)))
+      (decide (eqb n 0))
+
+  pub cut-status : verdict o ≡ cut → o .reply .answer .status ≡ 9
+  unfolding verdict
+  cut-status v =
+      let n = o .reply .answer .status in
+      ⊎-elim
+      (λ (e : eqb n 0 ≡ true). cut-not-done v (rw e))
+      (λ (e : eqb n 0 ≡ false).
+      ⊎-elim
+      (λ (f : eqb n 9 ≡ true). eqb-true n 9 f)
+      (λ (f : eqb n 9 ≡ false). not-cut (rw (e, f)) v)
+      (decide (eqb n 9)))
+      (decide (eqb n 0))

@@ -4,7 +4,7 @@ use native.Mathlib.Nat.{le-refl}
 use mathlib.Core.Path.{_≡_, refl, sym, _∙_, ap}
 use mathlib.Core.Bool.{Bool, true, false, _||_, not, or-assoc}
 use mathlib.Core.List.{List, [], _∷_, _++_, map, append-nil}
-use mathlib.Core.Logic.{⊎-elim, _≢_}
+use mathlib.Core.Logic.{⊎-elim}
 use lib.Dec.{eqb, ltb}
 use lib.ListN.{length, take}
 use native.Mathlib.Omega.{arith}
@@ -15,7 +15,7 @@ use Rattle.protocol.specs.Image.{Decision, Group, Tags, Current, Recover
 use Rattle.protocol.specs.Image.{size, after, cells, raw, shape-of, view}
 use Rattle.protocol.specs.Accesses.{touched}
 use Rattle.protocol.specs.Calls.{bad-range, stored-group, placing, tagging, completing, deciding, completed-first}
-use Rattle.protocol.specs.Calls.{recovering, decides, acknowledging, plan, Test, first, entry-tests, refusals}
+use Rattle.protocol.specs.Calls.{recovering, decides, acknowledging, plan, refusals}
 use Rattle.protocol.specs.Calls.{Request, Read, Write, Start, Acknowledge, Fault, Power-up, refusal-at}
 use Rattle.protocol.specs.declared.Shape.{Shape}
 use Rattle.boards.proofs.Basics.{or-false, All, none, also, all-append, all-cond, all-map, anyOf-false, or-right}
@@ -102,13 +102,15 @@ decision-valid s v = record { body = omega arith; within = omega arith }
 pub group-valid : (s : Shape) (g : ℕ)
     → All (Valid s) (put Group 0 (g % 256) ∷ put Group 1 (g / 256) ∷ put Decision 0 1 ∷ [])
 unfolding rank size
-group-valid s g = also (half 0 (g % 256) (omega arith)) (also (half 1 (g / 256) (omega arith)) (also (decision-valid s 1) none))
+group-valid s g =
+    also (half 0 (g % 256) (omega arith)) (also (half 1 (g / 256) (omega arith)) (also (decision-valid s 1) none))
   where
     half : (i v : ℕ) → i < 2 → Valid s (put Group i v)
     half i v l = record { body = omega arith; within = l }
 
 -- what holds of each put past byte 9 and of byte 9 set to 0 holds of every put of a completion and of a power-up
-module _ (s : Shape) (m : Memory) {P : Put → Type 0} (inside : (p : Put) → Inside s p → P p) (cleared : P (put Decision 0 0)) where
+module _ (s : Shape) (m : Memory) {P : Put → Type 0} (inside : (p : Put) → Inside s p → P p)
+    (cleared : P (put Decision 0 0)) where
   all-completing : (g : ℕ) → All P (completing s m g)
   unfolding completing
   all-completing g =
@@ -175,7 +177,8 @@ module _ (image : List ℕ) (r : Record) where
       let full = acknowledge-passed shape r i (length context) (b .1) .full in
       (b .0 .sound, acknowledging-valid shape memory r i context (b .0 .board) full)
   plan-valid (Fault i) e =
-      (begun image r i [] refl (rw append-nil e) .0 .sound, inside-valid (blocks-inside shape memory Recovery Current _ current))
+      let b = begun image r i [] refl (rw append-nil e) in
+      (b .0 .sound, inside-valid (blocks-inside shape memory Recovery Current _ current))
   plan-valid Power-up e =
       (order-sound (power-passed image shape memory e .ordered) .0, recovering-valid shape memory)
 

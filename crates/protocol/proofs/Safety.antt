@@ -265,7 +265,7 @@ module _ (s : Shape) (positive : 0 < s .size) (m : Memory) (g : ℕ) where
   unfolding completing rank
   completing-parts =
       ap (λ ps. block-puts ++ (ps ++ put Decision 0 0 ∷ []))
-      (contexts-cong s g m saved-blocks (λ i. sym (blocks-done .other Tentative (omega arith) (omega arith) i)))
+      (contexts-cong s g m saved-blocks (λ i. sym (blocks-done .some .other Tentative (omega arith) (omega arith) i)))
 
   -- the memory before and after byte 9 is set to 0
   abbrev saved-contexts : Memory
@@ -291,16 +291,17 @@ module _ (s : Shape) (positive : 0 < s .size) (m : Memory) (g : ℕ) where
       rw after-completing
       (record {
         undecided = refl;
-        current = λ a. other-context Current a (omega arith) ∙ b .other Current (omega arith) (omega arith) a;
+        current = λ a. other-context Current a (omega arith) ∙ b .some .other Current (omega arith) (omega arith) a;
         tag-zero = λ c l e. other-context Tags c (omega arith) ∙ b .tag-zero c l e;
-        tag-left = λ c e. other-context Tags c (omega arith) ∙ b .tag-left c e;
+        tag-left = λ c e. other-context Tags c (omega arith) ∙ b .some .tag-left c e;
         saved = λ a l e. other-context Recovery a (omega arith) ∙ b .cell-copied a (block-below s a positive l) e;
-        left = λ a e. other-context Recovery a (omega arith) ∙ b .cell-left a e;
+        left = λ a e. other-context Recovery a (omega arith) ∙ b .some .cell-left a e;
         kept =
             λ i x l k e.
-            contexts-saved s saved-blocks g i x l e k ∙ b .other Tentative (omega arith) (omega arith)
+            contexts-saved s saved-blocks g i x l e k ∙ b .some .other Tentative (omega arith) (omega arith)
             (i * s .context + x);
-        others = λ i x k e. context-left i x k e ∙ b .other Checkpoint (omega arith) (omega arith) (i * s .context + x);
+        others = λ i x k e. context-left i x k e
+            ∙ b .some .other Checkpoint (omega arith) (omega arith) (i * s .context + x);
       })
     where
       context-left : (i x : ℕ) → x < s .context → has g i ≡ false
@@ -391,7 +392,7 @@ module _ {s : Shape} (positive : 0 < s .size) {cell : ℕ → ℕ} {context : �
             λ b l.
             ⊎-elim
             (λ (e : tagged (m Tags b) ≡ true). c .tag-zero b l e)
-            (λ (e : tagged (m Tags b) ≡ false). c .tag-left b e ∙ tagged-zero (m Tags b) e)
+            (λ (e : tagged (m Tags b) ≡ false). c .some .tag-left b e ∙ tagged-zero (m Tags b) e)
             (decide (tagged (m Tags b)));
       }
 

@@ -1,8 +1,8 @@
 -- Every call that is done keeps memory, record and ledger in agreement.
 use Prim.Native.Nat.{ℕ, zero, suc, _+_, _-_, _*_, _/_, _≤_, _<_}
 use mathlib.Core.Path.{_≡_, refl, sym, _∙_, ap, subst}
-use mathlib.Core.Bool.{Bool, true, false, _&&_}
-use mathlib.Core.List.{List, [], _∷_, _++_, map}
+use mathlib.Core.Bool.{true, false, _&&_}
+use mathlib.Core.List.{List, [], _∷_, _++_}
 use mathlib.Core.Option.{some}
 use mathlib.Core.Logic.{⊎-elim, _≢_}
 use lib.Dec.{eqb, ltb, leb}
@@ -26,7 +26,7 @@ use Rattle.boards.proofs.Basics.{decide, clash, and-true, true-and, and-false, 
 use Rattle.protocol.proofs.Memory.{after-append}
 use Rattle.boards.proofs.Groups.{Backward, Bounded, bounded-more, link-bounded, has-zero}
 use Rattle.volatile.proofs.Records.{depends-depend, depends-clear}
-use Rattle.protocol.proofs.Marks.{mark, marks, live, saved, tag-in, marks-settled, writer-settled, undoes}
+use Rattle.protocol.proofs.Marks.{mark, marks, live, saved, marks-settled, writer-settled, undoes}
 use Rattle.protocol.proofs.Marks.{rollback-same, rollback-saved}
 use Rattle.protocol.proofs.Consistent.{Access-ok, writer-below, read-covers, noted-read, noted-write}
 use Rattle.protocol.proofs.Consistent.{cleared-rollback}
@@ -260,7 +260,7 @@ module _ {s : Shape} {m : Memory} {r : Record} {l : Ledger} (h : On s m r l) (mo
         record {
           consistent = cleared-rollback (h .consistent) (has g) back;
           links = depends-clear r depends-bounded g ∙ ap (unlink (has g)) (h .links);
-          undecided = c .other Decision (omega arith) (omega arith) 0 ∙ h .undecided;
+          undecided = c .some .other Decision (omega arith) (omega arith) 0 ∙ h .undecided;
           tags =
               λ b k.
               rw (writer-settled s (has g) undoes (l .notes) b)
@@ -268,7 +268,8 @@ module _ {s : Shape} {m : Memory} {r : Record} {l : Ledger} (h : On s m r l) (mo
               (λ (e : tagged-in g (m Tags b) ≡ true).
               c .tag-zero b k e ∙ sym (untag-in (has g) (writer s (l .notes) b) (tag-noted h g b k e)))
               (λ (e : tagged-in g (m Tags b) ≡ false).
-              c .tag-left b e ∙ h .tags b k ∙ sym (untag-out (has g) (writer s (l .notes) b) (tag-noted h g b k e)))
+              c .some .tag-left b e ∙ h .tags b k
+              ∙ sym (untag-out (has g) (writer s (l .notes) b) (tag-noted h g b k e)))
               (decide (tagged-in g (m Tags b))));
           current =
               λ a k.
@@ -281,17 +282,17 @@ module _ {s : Shape} {m : Memory} {r : Record} {l : Ledger} (h : On s m r l) (mo
               c .cell-copied a b< e ∙ h .recovery a k ∙ sym
               (rollback-in (writer s (l .notes) b) back order (tag-noted h g b b< e)))
               (λ (e : tagged-in g (m Tags b) ≡ false).
-              c .cell-left a e ∙ h .current a k ∙ sym (rollback-same back (tag-noted h g b b< e) (order .top)))
+              c .some .cell-left a e ∙ h .current a k ∙ sym (rollback-same back (tag-noted h g b b< e) (order .top)))
               (decide (tagged-in g (m Tags b))));
           recovery =
               λ a k.
               rw (marks-settled (has g) undone (l .notes) a)
-              (c .other Recovery (omega arith) (omega arith) a ∙ h .recovery a k ∙ sym
+              (c .some .other Recovery (omega arith) (omega arith) a ∙ h .recovery a k ∙ sym
               (rollback-saved (has g) (marks (l .notes) a)));
-          contexts = λ i x k d. c .other Checkpoint (omega arith) (omega arith) (i * s .context + x)
+          contexts = λ i x k d. c .some .other Checkpoint (omega arith) (omega arith) (i * s .context + x)
               ∙ h .contexts i x k d;
           lengths = h .lengths;
           commit = agrees-clear r g (h .commit);
-          given = λ i x k d e. c .other Tentative (omega arith) (omega arith) (i * s .context + x) ∙ h .given i x k d
-              (cleared-given i e);
+          given = λ i x k d e. c .some .other Tentative (omega arith) (omega arith) (i * s .context + x)
+              ∙ h .given i x k d (cleared-given i e);
         }

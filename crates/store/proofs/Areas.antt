@@ -1,6 +1,6 @@
 -- The runs that the leaves store are those that the definitions say of areas.
-use Prim.Native.Nat.{ℕ, zero, suc, _+_, _≤_, _<_}
-use mathlib.Core.Path.{_≡_, refl, sym, _∙_, ap, ap₂}
+use Prim.Native.Nat.{ℕ, zero, suc, _+_, _≤_}
+use mathlib.Core.Path.{_≡_, refl, _∙_, ap, ap₂}
 use mathlib.Core.List.{List, [], _∷_, map}
 use lib.ListN.{length, getD, drop}
 use lib.Seq.{getD-drop}
@@ -48,7 +48,8 @@ unfolding shifted copy-stores
 shifted-copy image at from to n =
     map-span _ _ 0 n
     ∙ span-same _ _ 0 0 n
-    (λ x _. rw zero-add (same-one (omega arith) (getD-drop at image (from + x) 0 ∙ ap (λ k. getD image k 0) (omega arith))))
+    (λ x _. rw zero-add
+    (same-one (omega arith) (getD-drop at image (from + x) 0 ∙ ap (λ k. getD image k 0) (omega arith))))
 
 pub copying-stores : (s : Shape) (image : List ℕ) (from to : Area) (i n : ℕ) → i + n ≤ size s from →
     map (raw s) (copying (view s image) from to i n) ≡ copy-stores image (base s from + i) (base s to + i) n

@@ -1,7 +1,7 @@
 -- Laws of lists of stores made under a budget.
 use Prim.Native.Nat.{ℕ, _+_, _-_, _≤_}
 use mathlib.Core.Path.{_≡_, refl, sym, _∙_, ap, ap₂, subst, subst⁻¹}
-use mathlib.Core.Bool.{Bool, true, false, _||_, or-assoc, or-false as or-none}
+use mathlib.Core.Bool.{true, false, _||_, or-assoc, or-false as or-none}
 use mathlib.Core.List.{List, [], _∷_, _++_}
 use mathlib.Core.Logic.{⊎-elim}
 use lib.Dec.{ltb}

@@ -1,10 +1,10 @@
 -- Laws of stores in a loop's rounds, in a part of the image, and away from what is read.
-use Prim.Native.Nat.{ℕ, zero, suc, _+_, _-_, _≤_, _<_}
-use mathlib.Core.Path.{_≡_, refl, sym, _∙_, ap, ap₂}
+use Prim.Native.Nat.{ℕ, _+_, _-_, _≤_}
+use mathlib.Core.Path.{_≡_, sym, _∙_, ap, ap₂}
 use mathlib.Core.List.{List, [], _∷_, _++_, append-nil}
 use mathlib.Core.Logic.{_≢_}
 use lib.ListN.{length, getD, set, take, drop, take-append-drop, drop-of-length-le, length-drop, length-set, length-map}
-use lib.Seq.{take-all, getD-set-other, drop-set-add, take-set-le}
+use lib.Seq.{take-all, drop-set-add, take-set-le}
 use native.Mathlib.Omega.{arith}
 use native.Mathlib.Nat.{zero-add}
 use native.Mathlib.Numerals.{add-one}

@@ -1,7 +1,7 @@
 -- What a call leaves in the area that an image stands in, and what it answers, as an outcome of the definitions.
-use Prim.Native.Nat.{ℕ, zero, suc, _-_, _≤_, _<_, min}
+use Prim.Native.Nat.{ℕ, zero, suc, _-_, _≤_, _<_}
 use mathlib.Core.Path.{_≡_, refl, sym, _∙_, ap}
-use mathlib.Core.Bool.{Bool, true, false, not, cond}
+use mathlib.Core.Bool.{true, false, cond}
 use mathlib.Core.List.{List, [], _∷_, _++_, map}
 use mathlib.Core.Logic.{_≢_, ⊎-elim}
 use native.Mathlib.Omega.{arith}
@@ -10,9 +10,9 @@ use lib.Dec.{eqb, ltb}
 use lib.Seq.{take-append-seam, take-at}
 use lib.ListN.{length, length-take, take, drop, set, replicate}
 use borrow.Author.Tests.{eq-eqb, eqb-true, eqb-false, le-ltb}
-use Rattle.protocol.specs.Image.{Store, made, view, shape-of, raw, Current}
+use Rattle.protocol.specs.Image.{Store, view, shape-of, raw, Current}
 use Rattle.protocol.specs.Calls.{Request, Read, first, Outcome, perform, executed, refused, refusals, read-tests, plan}
-use Rattle.protocol.specs.Calls.{record-refused, format, format-tests, formatting, filled}
+use Rattle.protocol.specs.Calls.{format, format-tests, formatting, filled}
 use Rattle.protocol.specs.declared.Shape.{Shape}
 use Rattle.volatile.specs.declared.Record.{Record}
 use Rattle.protocol.specs.declared.Reply.{Reply}

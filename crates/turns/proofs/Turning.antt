@@ -1,7 +1,7 @@
 -- From a call and its rows to a turn of the player.
 use Prim.Native.Nat.{ℕ, _+_, _-_, _≤_}
 use mathlib.Core.Path.{_≡_, refl, sym, _∙_, ap, subst}
-use mathlib.Core.Bool.{Bool, true, false, cond}
+use mathlib.Core.Bool.{cond}
 use mathlib.Core.List.{List, [], _∷_, _++_, append-nil}
 use mathlib.Core.Logic.{_≢_}
 use native.Mathlib.Omega.{arith}
@@ -10,18 +10,18 @@ use lib.Dec.{eqb}
 use lib.ListN.{length, take, drop, replicate, length-replicate, length-append}
 use lib.Seq.{length-take-le}
 use borrow.Author.Tests.{eq-eqb, ne-eqb}
-use Rattle.protocol.specs.Calls.{Outcome, Request, Read, Write, Start, Acknowledge, Fault, Power-up, perform, plan}
-use Rattle.protocol.specs.Calls.{acknowledging, format}
+use Rattle.protocol.specs.Calls.{Outcome, Request, Read, Power-up, perform, plan}
+use Rattle.protocol.specs.Calls.{format}
 use Rattle.protocol.specs.declared.Shape.{Shape}
 use Rattle.volatile.specs.declared.Record.{Record}
 use Rattle.protocol.specs.declared.Reply.{Reply}
 use Rattle.store.specs.Promise.{Performed, Formatted, Answered}
 use Rattle.text.specs.Events.{room}
 use Rattle.text.specs.Rows.{Row, row-text, rows-text}
-use Rattle.text.specs.Turns.{Player, row, moved, uncut, ended, told}
+use Rattle.text.specs.Turns.{row, uncut, ended}
 use Rattle.digits.specs.Append.{Appends}
 use Rattle.digits.proofs.Laws.{appends-then}
-use Rattle.turns.specs.Turned.{player-of, Turns, Powered, area-size, line-room}
+use Rattle.turns.specs.Turned.{Turns, Powered, area-size}
 use Rattle.turns.specs.declared.Turned.{Turned}
 use Rattle.protocol.proofs.Demand1.{read-stores-nothing}
 use Rattle.turns.proofs.Laws.{lent-image, outcome-of, no-bytes, perform-length, format-length, format-none}
@@ -134,7 +134,8 @@ read-turn area size state i a n k number {at} {b} {buffer} {x} {reply} {r} {y} {
     subst (λ (j : ℕ). Answered (Read i a n room) (take j area) state buffer reply x) (sub-zero size) m
     in
     subst (λ (o : Outcome). Turns (ended 82 o) number at b r y z)
-    (outcome-of (perform image state (Read i a n room) k) (q .reply k) (sym (read-stores-nothing image state i a n room k))
+    (outcome-of (perform image state (Read i a n room) k) (q .reply k)
+    (sym (read-stores-nothing image state i a n room k))
     (bytes-answered image state i a n room k (q .reply k) c buffer (q .buffer k))) t
 
 -- ---- formats
