@@ -21,7 +21,8 @@ use Rattle.protocol.proofs.Bridge.{Valid}
 use Rattle.protocol.proofs.Copies.{length-placing}
 use Rattle.protocol.proofs.Safety.{deciding-stores}
 use Rattle.protocol.proofs.Plans.{given-inside, inside-valid, group-valid, deciding-valid, undecided-before}
-use Rattle.protocol.proofs.Plans.{decided-after, made-decides, inside-quiet}
+use Rattle.protocol.proofs.Plans.{decided-after, inside-quiet}
+use Rattle.protocol.proofs.Outcomes.{made-decides}
 use Rattle.layout.proofs.Laws.{bounded}
 use Rattle.store.specs.Budget.{Makes, WellBudget, one, start as whole}
 use Rattle.store.specs.Runs.{put-stores}

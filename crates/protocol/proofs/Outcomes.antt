@@ -1,5 +1,5 @@
 -- How a call ends on a sound image: refused, with nothing changed; cut; or done.
-use Prim.Native.Nat.{ℕ, _≤_, _<_}
+use Prim.Native.Nat.{ℕ, zero, suc, _≤_, _<_}
 use mathlib.Core.Path.{_≡_, refl, _∙_, ap}
 use mathlib.Core.Bool.{Bool, true, false, _&&_}
 use mathlib.Core.List.{List, [], _∷_, map}
@@ -29,10 +29,13 @@ use Rattle.protocol.proofs.Bridge.{Sound, Valid, view-made-fun, made-so
 unfoldable pub decisive : Put → Bool
 decisive p = eqb (rank (p .area)) 1 && eqb (p .value) 1
 
-pub decides-map : (s : Shape) (ps : List Put) → All (Valid s) ps → anyOf decides (map (raw s) ps) ≡ anyOf decisive ps
+-- whether the stores that were made decide
+pub made-decides : (s : Shape) (k : ℕ) (ps : List Put) → All (Valid s) ps
+    → anyOf decides (take k (map (raw s) ps)) ≡ anyOf decisive (take k ps)
 unfolding anyOf decisive
-decides-map s [] none = refl
-decides-map s (p ∷ ps) (also v vs) = rw (decides-raw s p v, decides-map s ps vs)
+made-decides s zero ps vs = refl
+made-decides s (suc k) [] none = refl
+made-decides s (suc k) (p ∷ ps) (also v vs) = rw (decides-raw s p v, made-decides s k ps vs)
 
 -- ---- how a call ends
 
@@ -120,7 +123,7 @@ module _ {s : Shape} {image : List ℕ} (h : Sound s image) (r : Record) (reques
         sound = rw (ap (λ x. x .image) o, some) (made-sound h valid);
         memory = ap (λ x. view s (x .image)) o ∙ rw some (view-made-fun s (take k ps) image (h .long) valid);
         next = ap (λ x. x .reply .next) o ∙ rw short;
-        decided = ap (λ x. x .reply .answer .decided) o ∙ rw some (decides-map s (take k ps) valid);
+        decided = ap (λ x. x .reply .answer .decided) o ∙ made-decides s k ps v;
       })
 
   done-result : number ≡ 0 → All (Valid s) (the-plan .stores) → length (the-plan .stores) ≤ k
@@ -139,7 +142,8 @@ module _ {s : Shape} {image : List ℕ} (h : Sound s image) (r : Record) (reques
         next = ap (λ x. x .reply .next) o ∙ rw long;
         group = ap (λ x. x .reply .answer .group) o ∙ rw long;
         bytes = ap (λ x. x .bytes) o ∙ rw long;
-        decided = ap (λ x. x .reply .answer .decided) o ∙ rw all (decides-map s ps v);
+        decided = ap (λ x. x .reply .answer .decided) o ∙ made-decides s k ps v
+            ∙ ap (anyOf decisive) (take-all k ps l);
       })
 
   pub result : (number ≡ 0 → All (Valid s) (the-plan .stores)) → Result s image r request k

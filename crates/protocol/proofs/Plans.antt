@@ -19,7 +19,7 @@ use Rattle.protocol.specs.Calls.{recovering, decides, acknowledging, pla
 use Rattle.protocol.specs.Calls.{Request, Read, Write, Start, Acknowledge, Fault, Power-up, refusal-at}
 use Rattle.protocol.specs.declared.Shape.{Shape}
 use Rattle.boards.proofs.Basics.{or-false, All, none, also, all-append, all-cond, all-map, anyOf-false, or-right}
-use Rattle.boards.proofs.Basics.{all-take, take-append, take-map, false-and, row-fits}
+use Rattle.boards.proofs.Basics.{all-take, take-append, false-and, row-fits}
 use Rattle.volatile.specs.Volatile.{commit-of, acknowledge}
 use Rattle.volatile.specs.declared.Record.{Record}
 use Rattle.protocol.proofs.Refusals.{begun, write-passed, start-passed}
@@ -28,7 +28,7 @@ use Rattle.protocol.proofs.Bridge.{Valid, Sound, limits, order-sound}
 use Rattle.protocol.proofs.Copies.{Inside, placing-inside, blocks-inside, contexts-inside, current, recovery}
 use Rattle.protocol.proofs.Safety.{block-below, announced, announced-length, announced-areas, stores-parts}
 use Rattle.protocol.proofs.Safety.{deciding-stores, decision}
-use Rattle.protocol.proofs.Outcomes.{decisive, decides-map}
+use Rattle.protocol.proofs.Outcomes.{decisive, made-decides}
 
 -- ---- accesses
 
@@ -189,12 +189,7 @@ unfolding anyOf
 anyOf-append t [] ys = refl
 anyOf-append t (x ∷ xs) ys = ap (λ b. t x || b) (anyOf-append t xs ys) ∙ sym (or-assoc (t x) (anyOf t xs) (anyOf t ys))
 
--- whether the stores that were made decide
-pub made-decides : (s : Shape) (k : ℕ) (ps : List Put) → All (Valid s) ps
-    → anyOf decides (take k (map (raw s) ps)) ≡ anyOf decisive (take k ps)
-made-decides s k ps v = ap (anyOf decides) (take-map k (raw s) ps) ∙ decides-map s (take k ps) (all-take k v)
-
--- a put in its area that does not
+-- a put in its area that does not decide
 pub record Quiet (s : Shape) (p : Put) : Type 0 where
   pub valid : Valid s p
   pub calm : decisive p ≡ false
