@@ -15,7 +15,7 @@ use Rattle.protocol.specs.Image.{rank, base, size, view, total}
 use Rattle.protocol.specs.Calls.{copying, block-copied, context-saved}
 use Rattle.protocol.specs.declared.Shape.{Shape}
 use Rattle.boards.proofs.Basics.{row-fits}
-use Rattle.boards.proofs.Masks.{tag-none}
+use Rattle.boards.proofs.Masks.{tagged-none}
 use Rattle.protocol.proofs.Copies.{Bank, current, recovery, bank-size}
 use Rattle.store.specs.Budget.{Makes, one, WellBudget}
 use Rattle.store.specs.Runs.{copy-stores, shifted}
@@ -129,7 +129,7 @@ module _ {s : Shape} {x : List ℕ} (long : length x ≡ total s) {k r : Budget}
   skipped g save b zero l none p = rw add-zero p
   skipped g save b (suc d) l none p =
       let before = skipped g save b d (omega arith) (λ j h i. none j h (omega arith)) p in
-      let empty = tag-none g (getD y (12 + (b + d)) 0) (none (b + d) (omega arith) (omega arith)) in
+      let empty = sym (tagged-none g (none (b + d) (omega arith) (omega arith))) in
       rw (add-suc, ← add-one)
       (blocks-again g save (b + d) (omega arith) before (block-left g save (b + d) (omega arith) empty))
 

@@ -1,4 +1,4 @@
--- The parts of a commit and of a power-up, one after the other, are the plans of the definitions.
+-- The parts of a completion, one after the other, are the plan of the definitions.
 use Prim.Native.Nat.{ℕ}
 use mathlib.Core.Path.{_≡_, subst}
 use mathlib.Core.Bool.{Bool}
@@ -9,14 +9,12 @@ use Rattle.boards.specs.Lists.{for}
 use Rattle.protocol.specs.Image.{Decision, Current, Recovery, Memory}
 use Rattle.protocol.specs.Image.{put, rank, after, view, total}
 use Rattle.protocol.specs.Calls.{blocks-copied, context-saved, completing}
-use Rattle.protocol.specs.Calls.{completed-first, recovering}
-use Rattle.boards.specs.Boards.{tagged-in, tagged}
+use Rattle.boards.specs.Boards.{tagged-in}
 use Rattle.protocol.specs.declared.Shape.{Shape}
 use Rattle.protocol.proofs.Memory.{untouched, else-area}
 use Rattle.protocol.proofs.Copies.{all-blocks, blocks-inside, recovery}
 use Rattle.protocol.proofs.Safety.{contexts-cong}
 use Rattle.protocol.proofs.Plans.{inside-valid}
-pub use Rattle.protocol.proofs.Plans.{first-valid}
 use Rattle.store.specs.Budget.{WellBudget}
 use Rattle.store.specs.declared.Budget.{Budget}
 use Rattle.store.specs.Puts.{Puts}
@@ -46,12 +44,3 @@ module _ {s : Shape} {x : List ℕ} (long : length x ≡ total s) {b : Budget} (
       (then-reads blocks (λ n. for (s .boards) (context-saved s n g) ++ put Decision 0 0 ∷ []) long
       (inside-valid (blocks-inside s m Current Recovery (tagged-in g) recovery)) well p
       (then-puts (for (s .boards) (context-saved s (view s _) g)) (put Decision 0 0 ∷ []) q t))
-
-  -- a power-up: the completion of a decided commit, if there is one, then the rollback
-  pub recovers : {r r′ : Budget} {y z : List ℕ} → Puts s (completed-first s (view s x)) b x r y
-      → Puts s (blocks-copied s (view s y) Recovery Current tagged) r y r′ z
-      → Puts s (recovering s (view s x)) b x r′ z
-  unfolding recovering
-  recovers p q =
-      then-reads (completed-first s (view s x)) (λ m. blocks-copied s m Recovery Current tagged) long
-      (first-valid s (view s x)) well p q

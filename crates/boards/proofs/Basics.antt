@@ -230,12 +230,6 @@ module _ {X : Type 0} (f : ℕ → X) where
       (ap f (omega arith) ∙ h 0 (omega arith) ∙ ap g (omega arith))
       (span-same g (suc a) (suc b) n (λ x l. ap f (omega arith) ∙ h (suc x) (omega arith) ∙ ap g (omega arith)))
 
--- two loops that agree round by round
-pub for-ext : {X : Type 0} (n : ℕ) (f g : ℕ → List X) → ((i : ℕ) → i < n → f i ≡ g i) → for n f ≡ for n g
-unfolding for
-for-ext zero f g h = refl
-for-ext (suc n) f g h = rw (for-ext n f g (λ i l. h i (omega arith)), h n (omega arith))
-
 -- of rows of n, one after the other, row i ends within the first b if it is one of them
 pub row-fits : (n b i : ℕ) → i < b → i * n + n ≤ b * n
 row-fits n b i l = omega (arith, suc-mul i n, mul-le-mul-right n l)

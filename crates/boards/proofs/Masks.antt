@@ -176,20 +176,18 @@ beyond-none p g l s = no-beyond p g (λ j below h. omega (arith, has-below 16 g 
 
 -- ---- tags
 
--- a tag as the code tests it
-pub tag-none : (g t : ℕ) → t ≡ 0 → tagged-in g t ≡ false
+-- a tag by the writer that it names
+pub tagged-none : (g : ℕ) {t : ℕ} → t ≡ 0 → false ≡ tagged-in g t
 unfolding tagged-in
-tag-none g t e = ap (tagged-in g) e
+tagged-none g e = rw e
 
-pub tag-past : (g t : ℕ) → g < 65536 → 16 < t → tagged-in g t ≡ false
+pub tagged-past : (g j : ℕ) {t : ℕ} → g < 65536 → 16 ≤ j → t ≡ suc j → false ≡ tagged-in g t
 unfolding tagged-in
-tag-past g zero h l = refl
-tag-past g (suc j) h l = has-small 16 g j h (omega arith)
+tagged-past g j h l e = rw e (sym (has-small 16 g j h l))
 
-pub tag-board : (g t : ℕ) (r : Bool) → 0 < t → ((j : ℕ) → suc j ≡ t → r ≡ has g j) → r ≡ tagged-in g t
+pub tagged-board : (g j : ℕ) {t : ℕ} → t ≡ suc j → has g j ≡ tagged-in g t
 unfolding tagged-in
-tag-board g zero r l h = absurd (omega arith)
-tag-board g (suc j) r l h = h j refl
+tagged-board g j e = rw e
 
 -- ---- the sixteen rows
 

@@ -5,6 +5,8 @@ use mathlib.Core.Bool.{Bool, true, false, _&&_, _||_, not, cond}
 use mathlib.Core.Logic.{_⊎_, _↔_}
 use lib.Dec.{eqb, leb}
 use Rattle.boards.specs.Lists.{any, every}
+use Rattle.boards.specs.declared.Writer.{Writer}
+use Rattle.boards.specs.declared.Writer.the-variants.{Nobody, Board}
 
 -- ---- sets: a set of boards is a number, bit j for board j
 
@@ -39,6 +41,10 @@ unfoldable pub beyond : ℕ → ℕ → Bool
 beyond p g = any 16 (λ j. leb p j && has g j)
 
 -- ---- tags: a block's tag is 0 for no active writer, j + 1 for writer j
+
+abbrev pub tag-of : Writer → ℕ
+tag-of Nobody = 0
+tag-of (Board j) = suc j
 
 -- the tag names a member of g; it names a writer
 unfoldable pub tagged-in : ℕ → ℕ → Bool

@@ -1,7 +1,8 @@
-// A set of boards in sixteen bits: bit j for board j.
+// A set of boards in sixteen bits: bit j for board j; tags.
+use crate::Writer;
 ghost use mathlib.Core.Path.{_≡_};
 ghost use Prim.Native.Nat.{_<_};
-ghost use Rattle.boards.specs.Boards.{has, single, with-board, meets, within, beyond, tagged-in};
+ghost use Rattle.boards.specs.Boards.{has, single, with-board, meets, within, beyond, tag-of, tagged-in};
 ghost use Rattle.boards.specs.Rows.{joined};
 
 pub fn has(g: u16, j: u8) -> bool
@@ -55,15 +56,25 @@ pub fn beyond(p: u8, g: u16) -> bool
     g >> p != 0
 }
 
+// The active writer that a tag names.
+pub fn writer_of(tag: u8) -> Writer
+    ensures { λ r. ⌜ tag ≡ tag-of r ⌝ }
+{
+    if tag == 0 {
+        return Writer::Nobody;
+    }
+    Writer::Board(tag - 1)
+}
+
 // Whether a tag names a member of g.
 pub fn tagged_in(g: u16, tag: u8) -> bool
     ensures { λ r. ⌜ r ≡ tagged-in g tag ⌝ }
 {
-    if tag == 0 {
+    let Writer::Board(j) = writer_of(tag) else {
+        return false;
+    };
+    if j >= 16 {
         return false;
     }
-    if tag > 16 {
-        return false;
-    }
-    has(g, tag - 1)
+    has(g, j)
 }

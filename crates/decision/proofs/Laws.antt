@@ -131,11 +131,11 @@ module _ {s : Shape} {x : List ℕ} (i : ℕ) (context : List ℕ) {k : ℕ} (bo
       commits-all {next = next} long e f completed =
           let ps = placing Tentative (i * s .context) context in
           let valid = inside-valid (given-inside s i context board full) in
-          let all = composed long (well-start k) ps g valid given announced completed in
+          let all = composed long (well-start refl) ps g valid given announced completed in
           let both = made-outcome g next [] (not (told .cut)) (all .makes) decided in
           rw (← same, ← members, eq-eqb _ _ e, ← f) (record { reply = both .0; image = both .1 })
 
 -- what is left at the end is no more than there was
 pub left-all : {s : Shape} {ps qs rs : List Put} {k : ℕ} {b b′ b″ : Budget} {x y z w : List ℕ}
     → Puts s ps (whole k) x b y → Puts s qs b y b′ z → Puts s rs b′ z b″ w → b″ .left ≤ k
-left-all p q t = left-most (then-puts _ _ p (then-puts _ _ q t) .makes)
+left-all p q t = left-most refl (then-puts _ _ p (then-puts _ _ q t) .makes)

@@ -1,5 +1,5 @@
 -- No call stores 65,536 bytes or more: without a Z before it no line is cut.
-use Prim.Native.Nat.{ℕ, zero, suc, _+_, _-_, _*_, _/_, _≤_, _<_}
+use Prim.Native.Nat.{ℕ, suc, _+_, _-_, _*_, _/_, _≤_, _<_}
 use mathlib.Core.Path.{_≡_, refl, sym, _∙_, ap}
 use mathlib.Core.Bool.{Bool, true, false, not, cond}
 use mathlib.Core.List.{List, [], _∷_, _++_, map}
@@ -9,10 +9,9 @@ use native.Mathlib.Nat.{mul-le-mul-right, mul-le-mul, mul-add}
 use lib.Dec.{eqb, ltb}
 use lib.ListN.{length, length-append, length-map}
 use borrow.Author.Tests.{eqb-true, ltb-true}
-use Rattle.boards.specs.Lists.{for}
 use Rattle.boards.specs.Boards.{has}
 use Rattle.protocol.specs.Image.{Memory, Store, Area, Decision, Tags, Current, Recovery, Tentative, put, after, allowed}
-use Rattle.protocol.specs.Image.{total, in-order, shape-of, view, raw}
+use Rattle.protocol.specs.Image.{total, shape-of, view, raw}
 use Rattle.volatile.specs.Volatile.{fresh, opened, depends, commit-of, acknowledge}
 use Rattle.boards.specs.Boards.{commit-group, fault-group}
 use Rattle.protocol.specs.Accesses.{touched}
@@ -25,24 +24,16 @@ use Rattle.boards.specs.Boards.{tagged, tagged-in}
 use Rattle.protocol.specs.declared.Shape.{Shape}
 use Rattle.volatile.specs.declared.Record.{Record}
 use Rattle.boards.proofs.Basics.{decide}
-use Rattle.protocol.proofs.Bridge.{Limits}
+use Rattle.protocol.proofs.Bridge.{Limits, limits}
 use Rattle.protocol.proofs.Copies.{length-placing}
-use Rattle.protocol.proofs.Counts.{count, length-blocks, length-deciding}
+use Rattle.boards.proofs.Groups.{count-le}
+use Rattle.protocol.proofs.Counts.{length-blocks, length-deciding}
 use Rattle.protocol.proofs.Format.{format-stores}
-use Rattle.protocol.proofs.Refusals.{uncut, refusals-uncut, Entered, entered, entry-first}
+use Rattle.protocol.proofs.Refusals.{uncut, refusals-uncut, entered, begun}
 use Rattle.protocol.proofs.Refusals.{write-passed, start-passed, acknowledge-passed, power-passed}
 use Rattle.protocol.proofs.Plans.{ranged}
 use Rattle.layout.proofs.Laws.{bounded, geometry}
 use Rattle.text.specs.Turns.{uncut as most, Nothing-cut}
-
-count-most : (n : ℕ) (p : ℕ → Bool) → count n p ≤ n
-unfolding count
-count-most zero p = omega arith
-count-most (suc n) p = step (p n) (count-most n p)
-  where
-    step : (b : Bool) → count n p ≤ n → count n p + cond b 1 0 ≤ suc n
-    step true h = omega arith
-    step false h = omega arith
 
 -- a status is 9 only if the call is taken and has more stores than its budget
 executed-cut : (k : ℕ) (ss : List Store) (image : List ℕ) (g : ℕ) (next : Record) (bytes : List ℕ) →
@@ -106,7 +97,7 @@ module _ (s : Shape) (l : Limits s) where
       omega (
         arith,
         length-blocks s m from to chosen,
-        mul-le-mul-right (s .size + 1) (count-most (s .blocks) p),
+        mul-le-mul-right (s .size + 1) (count-le (s .blocks) p),
         mul-add (s .blocks) (s .size) 1,
         l .most-cells,
         l .most-blocks,
@@ -117,11 +108,11 @@ module _ (s : Shape) (l : Limits s) where
       omega (
         arith,
         length-deciding s m g,
-        mul-le-mul-right (s .size + 1) (count-most (s .blocks) (λ b. tagged-in g (m Tags b))),
+        mul-le-mul-right (s .size + 1) (count-le (s .blocks) (λ b. tagged-in g (m Tags b))),
         mul-add (s .blocks) (s .size) 1,
         l .most-cells,
         l .most-blocks,
-        mul-le-mul (count-most (s .boards) (has g)) (l .most-context),
+        mul-le-mul (count-le (s .boards) (has g)) (l .most-context),
         mul-le-mul-right 64 (l .most-boards),
       )
 
@@ -163,8 +154,8 @@ module _ (s : Shape) (l : Limits s) where
 taken : (image : List ℕ) (r : Record) (i : ℕ) (ts : List Test) → first (entry-tests image r i ++ ts) ≡ 0
     → Limits (shape-of image) × (first ts ≡ 0)
 taken image r i ts e =
-    let both = entry-first image r i ts e in
-    (geometry (entered image r i refl (both .0) .ordered) .shape .limits, both .1)
+    let both = begun image r i ts refl e in
+    (limits (shape-of image) (both .0 .sound .allowed-shape), both .1)
 
 few-stores : (image : List ℕ) (r : Record) (request : Request) →
     let s = shape-of image in
@@ -202,7 +193,7 @@ few-stores image r (Acknowledge i context) e =
     omega (arith, few-acknowledging s (ok .0) (view s image) r i context (omega (arith, full, ok .0 .most-context)))
 few-stores image r (Fault i) e =
     let s = shape-of image in
-    let l = geometry (entered image r i refl e .ordered) .shape .limits in
+    let l = limits s (entered image r i refl e .sound .allowed-shape) in
     omega (arith, few-blocks s l (view s image) Recovery Current (tagged-in (fault-group (depends r) i)))
 few-stores image r Power-up e =
     let s = shape-of image in

@@ -40,7 +40,7 @@ fn clear(s: &mut [u8])
 }
 
 // The first `size` bytes of the area are zeroed, and formatted.
-fn format_anew(area: &mut [u8], s: Shape, size: usize, k: usize, state: Record) -> Reply
+fn format_anew(area: &mut [u8], state: Record, s: Shape, size: usize, k: usize) -> Reply
     requires { ⌜ size ≤ length (now area) ⌝ }
     ensures { λ r. ⌜ Formatted s (replicate size 0) state k r (take size (now (area .exit))) ⌝ }
 {
@@ -69,7 +69,7 @@ fn play_format(
         return end_turn(area, length, reply, b'F', &none[0..0], number, out, at);
     }
     let size = total(s);
-    let reply = format_anew(area, s, size, p.k, state);
+    let reply = format_anew(area, state, s, size, p.k);
     end_turn(area, size, reply, b'F', &none[0..0], number, out, at)
 }
 

@@ -10,7 +10,9 @@ use native.Mathlib.Omega.{arith}
 use borrow.Author.Tests.{eq-eqb, eqb-true, eqb-false}
 use Rattle.boards.specs.Lists.{anyOf}
 use Rattle.boards.specs.Boards.{Links, link, Chain, step}
-use Rattle.protocol.specs.Accesses.{touched, Binding, one-way, two-way, bind-boards, bind-tag, bind-blocks}
+use Rattle.protocol.specs.Accesses.{touched, bind-boards, bind-tag, bind-blocks}
+use Rattle.protocol.specs.declared.Binding.{Binding}
+use Rattle.protocol.specs.declared.Binding.the-variants.{OneWay, TwoWay}
 use Rattle.protocol.specs.declared.Shape.{Shape}
 use Rattle.boards.proofs.Basics.{decide, clash, or-true, or-right, true-or, All, none, also, all-map}
 use Rattle.boards.proofs.Groups.{Forward, Bounded, chain-more, chain-last, link-new, link-old, link-cases, link-bounded}
@@ -64,8 +66,8 @@ all-found {P} b (c ∷ bs) (also h hs) e =
 -- no link is lost
 tie-wider : (how : Binding) (d : Links) (i j a b : ℕ) → d a b ≡ true → bind-boards link how d i j a b ≡ true
 unfolding bind-boards
-tie-wider one-way d i j a b h = link-old d i j a b h
-tie-wider two-way d i j a b h = link-old (link d i j) j i a b (link-old d i j a b h)
+tie-wider OneWay d i j a b h = link-old d i j a b h
+tie-wider TwoWay d i j a b h = link-old (link d i j) j i a b (link-old d i j a b h)
 
 bind-wider : (how : Binding) (d : Links) (i t a b : ℕ) → d a b ≡ true → bind-tag link how d i t a b ≡ true
 unfolding bind-tag
@@ -83,10 +85,10 @@ binds-wider how tag d i (c ∷ bs) a b h =
 -- the board comes to reach all that a tag's board reaches; after a write, what reaches a tag's board reaches the board
 tie-forth : (how : Binding) (d : Links) (i j : ℕ) → bind-boards link how d i j i j ≡ true
 unfolding bind-boards
-tie-forth one-way d i j = link-new d i j
-tie-forth two-way d i j = link-old (link d i j) j i i j (link-new d i j)
+tie-forth OneWay d i j = link-new d i j
+tie-forth TwoWay d i j = link-old (link d i j) j i i j (link-new d i j)
 
-tie-back : (d : Links) (i j : ℕ) → bind-boards link two-way d i j j i ≡ true
+tie-back : (d : Links) (i j : ℕ) → bind-boards link TwoWay d i j j i ≡ true
 unfolding bind-boards
 tie-back d i j = link-new (link d i j) j i
 
@@ -98,12 +100,12 @@ bind-from how d i (suc j) m (from c) =
     (λ (e : eqb i j ≡ false). rw e (step (tie-forth how d i j) (chain-more (tie-wider how d i j) c)))
     (decide (eqb i j))
 
-bind-to : (d : Links) (i t m : ℕ) → To d m t → Chain (bind-tag link two-way d i t) m i
+bind-to : (d : Links) (i t m : ℕ) → To d m t → Chain (bind-tag link TwoWay d i t) m i
 unfolding bind-tag
 bind-to d i (suc j) m (to c) =
     ⊎-elim
     (λ (e : eqb i j ≡ true). rw e (subst (λ x. Chain d m x) (sym (eqb-true i j e)) c))
-    (λ (e : eqb i j ≡ false). rw e (chain-last (chain-more (tie-wider two-way d i j) c) (tie-back d i j)))
+    (λ (e : eqb i j ≡ false). rw e (chain-last (chain-more (tie-wider TwoWay d i j) c) (tie-back d i j)))
     (decide (eqb i j))
 
 pub from-more : {d e : Links} {m t : ℕ} → ((a b : ℕ) → d a b ≡ true → e a b ≡ true) → From d m t → From e m t
@@ -123,7 +125,7 @@ binds-from how tag d i (b ∷ bs) =
     (all-map (λ x f m h. f m (from-more (bind-wider (how b) d i (tag b)) h)) (binds-from how tag e i bs))
 
 pub binds-to : (how : ℕ → Binding) (tag : ℕ → ℕ) (d : Links) (i : ℕ) (bs : List ℕ)
-    → All (λ b. how b ≡ two-way → (m : ℕ) → To d m (tag b) → Chain (bind-blocks link how tag d i bs) m i) bs
+    → All (λ b. how b ≡ TwoWay → (m : ℕ) → To d m (tag b) → Chain (bind-blocks link how tag d i bs) m i) bs
 unfolding bind-blocks
 binds-to how tag d i [] = none
 binds-to how tag d i (b ∷ bs) =
@@ -138,9 +140,9 @@ module _ {n : ℕ} {i : ℕ} (small : i < n) where
   bind-bounded : (how : Binding) (d : Links) (t : ℕ) → t ≤ n → Bounded n d → Bounded n (bind-tag link how d i t)
   unfolding bind-tag bind-boards
   bind-bounded how d zero l h = h
-  bind-bounded one-way d (suc j) l h =
+  bind-bounded OneWay d (suc j) l h =
       ⊎-elim (λ (e : eqb i j ≡ true). rw e h) (λ (e : eqb i j ≡ false). rw e (link-bounded h small l)) (decide (eqb i j))
-  bind-bounded two-way d (suc j) l h =
+  bind-bounded TwoWay d (suc j) l h =
       ⊎-elim
       (λ (e : eqb i j ≡ true). rw e h)
       (λ (e : eqb i j ≡ false). rw e (link-bounded (link-bounded h small l) l small))
@@ -163,9 +165,9 @@ link-forward {p} {d} i j out f =
     }
 
 pub data Outside (p : ℕ → Bool) : Binding → ℕ → Type 0 where
-  reading : {t : ℕ} → Outside p one-way t
-  untagged : Outside p two-way 0
-  writing : {j : ℕ} → p j ≡ false → Outside p two-way (suc j)
+  reading : {t : ℕ} → Outside p OneWay t
+  untagged : Outside p TwoWay 0
+  writing : {j : ℕ} → p j ≡ false → Outside p TwoWay (suc j)
 
 bind-forward : {p : ℕ → Bool} {how : Binding} {d : Links} (i t : ℕ) → p i ≡ false → Outside p how t → Forward p d
     → Forward p (bind-tag link how d i t)

@@ -11,7 +11,8 @@ use native.Mathlib.Omega.{arith}
 use borrow.Author.Tests.{leb-true, ltb-true, lt-ltb}
 use Rattle.boards.specs.Lists.{span, anyOf, select}
 use Rattle.boards.specs.Boards.{has, meets, Links, unlinked, link, unlink, Chain, here}
-use Rattle.protocol.specs.Accesses.{touched, Binding, read-binding, write-binding, bind-blocks}
+use Rattle.protocol.specs.Accesses.{touched, read-binding, write-binding, bind-blocks}
+use Rattle.protocol.specs.declared.Binding.{Binding}
 use Rattle.protocol.specs.Ledger.{Access, Fate, pending, kept, undone, Wrote, Read-from, Note, Open-commit}
 use Rattle.protocol.specs.Ledger.{Ledger, blank}
 use Rattle.protocol.specs.Ledger.{is-pending, covers, written, sources-of, wrote-in, writer, source, settled}

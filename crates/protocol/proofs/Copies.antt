@@ -163,8 +163,6 @@ pub record Partly (s : Shape) (from to : Area) (chosen : ℕ → Bool) (m m′ :
   pub other : (a : Area) → rank a ≢ rank Tags → rank a ≢ rank to → (i : ℕ) → m′ a i ≡ m a i
   pub tag-left : (b : ℕ) → chosen (m Tags b) ≡ false → m′ Tags b ≡ m Tags b
   pub cell-left : (a : ℕ) → chosen (m Tags (a / s .size)) ≡ false → m′ to a ≡ m to a
-  pub tag-above : (b : ℕ) → s .blocks ≤ b → m′ Tags b ≡ m Tags b
-  pub cell-above : (a : ℕ) → s .blocks ≤ a / s .size → m′ to a ≡ m to a
   pub block : (b : ℕ) → chosen (m Tags b) ≡ true
       → (m′ Tags b ≡ m Tags b) ⊎ ((m′ Tags b ≡ 0) × ((a : ℕ) → a / s .size ≡ b → m′ to a ≡ m from a))
 
@@ -268,8 +266,6 @@ module _
                 (λ b x v l e h. else-area (λ r. q (sym r))) (λ b l e. else-area (λ r. p (sym r))))) m;
             tag-left = λ b h. still Tags b (λ c l. tag-away c b (λ e f. clash e (unchosen b c f h)));
             cell-left = λ a h. still to a (λ c l. cell-away c a (λ e f. clash e (unchosen _ c f h)));
-            tag-above = λ b h. still Tags b (λ c l. tag-away c b (λ e. omega arith));
-            cell-above = λ a h. still to a (λ c l. cell-away c a (λ e. omega arith));
             block = λ b e.
                 ⊎-elim
                 (λ t. let r = round (s .blocks) round-of b k (ltb-true _ _ t) in

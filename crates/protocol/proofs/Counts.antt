@@ -12,7 +12,7 @@ use Rattle.protocol.specs.Image.{Area, Decision, Tags, Current, Recovery
 use Rattle.protocol.specs.Calls.{copying, block-copied, blocks-copied, context-saved, completing, deciding}
 use Rattle.protocol.specs.declared.Shape.{Shape}
 use Rattle.boards.proofs.Basics.{decide}
-unfoldable pub use Rattle.boards.proofs.Groups.{count}
+use Rattle.boards.proofs.Groups.{count}
 use Rattle.protocol.proofs.Copies.{length-copying}
 
 -- a loop whose rounds have c elements each where the test passes, and else none

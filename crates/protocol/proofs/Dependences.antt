@@ -10,7 +10,9 @@ use native.Mathlib.Omega.{arith}
 use borrow.Author.Tests.{eq-eqb, ne-eqb, eqb-true, eqb-false, ltb-true, ltb-false}
 use Rattle.boards.specs.Lists.{any, anyOf}
 use Rattle.boards.specs.Boards.{Links, link, unlink}
-use Rattle.protocol.specs.Accesses.{touched, Binding, one-way, two-way, bind-boards, bind-tag, bind-blocks}
+use Rattle.protocol.specs.Accesses.{touched, bind-boards, bind-tag, bind-blocks}
+use Rattle.protocol.specs.declared.Binding.{Binding}
+use Rattle.protocol.specs.declared.Binding.the-variants.{OneWay, TwoWay}
 use Rattle.protocol.specs.Ledger.{Fate, pending, kept, undone, Access, Wrote, Read-from, Note, is-pending}
 use Rattle.protocol.specs.Ledger.{written, wrote-in, writer, settled}
 use Rattle.protocol.specs.Dependences.{width, is-write, in-blocks, last-by, came-upon}
@@ -261,12 +263,12 @@ module _ (s : Shape) (p : ℕ → Bool) {f : Fate} (ends : Ends f) where
 -- ---- an access noted is its blocks bound
 
 unfoldable pub goes-forth : Binding → Bool
-goes-forth one-way = true
-goes-forth two-way = true
+goes-forth OneWay = true
+goes-forth TwoWay = true
 
 unfoldable pub goes-back : Binding → Bool
-goes-back one-way = false
-goes-back two-way = true
+goes-back OneWay = false
+goes-back TwoWay = true
 
 -- whether board x comes to depend on y where board i binds itself to a tag's writer
 unfoldable pub binds-now : Binding → ℕ → ℕ → ℕ → ℕ → Bool
@@ -313,7 +315,7 @@ unbound how d i t x y own = sym (ap (λ h. d x y || h) (refute _ none-bound) ∙
 bind-other : (how : Binding) (d : Links) (i j x y : ℕ) → eqb i j ≡ false
     → bind-boards link how d i j x y ≡ d x y || binds-now how i (suc j) x y
 unfolding bind-boards binds-now names goes-forth goes-back
-bind-other one-way d i j x y e =
+bind-other OneWay d i j x y e =
     link-eq d i j x y
     ∙ ap (λ h. d x y || h) (apart i j x y e ∙ ap (λ h. not (eqb x y) && h) (right (eqb i x && eqb j y) (eqb i y)))
   where
@@ -321,7 +323,7 @@ bind-other one-way d i j x y e =
     right true b = refl
     right false true = refl
     right false false = refl
-bind-other two-way d i j x y e =
+bind-other TwoWay d i j x y e =
     link-eq (link d i j) j i x y
     ∙ ap₂ _||_ (link-eq d i j x y ∙ ap (λ h. d x y || h) (apart i j x y e))
     (apart j i x y (ne-eqb j i (λ q. eqb-false i j e (sym q))))

@@ -19,7 +19,9 @@ use Rattle.protocol.specs.Calls.{Request, Read, Write, Start, Acknowledg
 use Rattle.protocol.specs.Calls.{entry-tests, read-tests, write-tests, start-tests, acknowledge-tests}
 use Rattle.protocol.specs.Calls.{power-tests}
 use Rattle.protocol.specs.Calls.{acknowledging, bad-tags, bad-decision, plan, record-refused, blocks-copied}
-use Rattle.protocol.specs.Accesses.{touched, Binding, two-way, read-binding, write-binding}
+use Rattle.protocol.specs.Accesses.{touched, read-binding, write-binding}
+use Rattle.protocol.specs.declared.Binding.{Binding}
+use Rattle.protocol.specs.declared.Binding.the-variants.{TwoWay}
 use Rattle.protocol.specs.Ledger.{refused, done, undone, Note, Open-commit, Ledger, writer}
 use Rattle.protocol.specs.Ledger.{source, sources-of, decides-now, noted, started, cleared, all-undone}
 use Rattle.protocol.specs.Ledger.{commit-effect, effect, update}
@@ -37,7 +39,6 @@ use Rattle.protocol.proofs.Marks.{live-byte, byte-older}
 use Rattle.protocol.proofs.Accesses.{Outside, reading, untagged, writing}
 use Rattle.protocol.proofs.Consistent.{Consistent, Access-ok}
 use Rattle.protocol.proofs.Bridge.{Sound, Limits, limits, board-small, in-order-sound, view-decision}
-use Rattle.protocol.proofs.Format as Format
 use Rattle.protocol.proofs.Copies.{blocks-inside, current}
 use Rattle.protocol.proofs.Safety.{Safe, idle, deciding, rollback-through, recovering-safe, write-through}
 use Rattle.protocol.proofs.Outcomes.{Finished, Stopped, Result, turned-away, stopped, finished, result}
@@ -141,7 +142,7 @@ untied s g a n tag tag′ (b ∷ bs) (also same rest) e =
     let both = or-false (tagged-in g (tag b)) (anyOf (tagged-in g) (map tag bs)) e in
     also (outside (tag′ b) (ap (tagged-in g) (sym same) ∙ both .0)) (untied s g a n tag tag′ bs rest (both .1))
   where
-    outside : (t : ℕ) → tagged-in g t ≡ false → Outside (has g) two-way t
+    outside : (t : ℕ) → tagged-in g t ≡ false → Outside (has g) TwoWay t
     outside zero e = untagged
     outside (suc j) e = writing e
 

@@ -16,7 +16,9 @@ use Rattle.protocol.specs.Image.{Area, Decision, Group, Tags, Current, R
 use Rattle.protocol.specs.Image.{Put, put, rank, change, after, byte, shape-of, view, size}
 use Rattle.volatile.specs.Volatile.{closed, fresh, depends, engaged, commit-of, left-open, depend, clear, opened}
 use Rattle.volatile.specs.Volatile.{acknowledge, bad-record, off}
-use Rattle.protocol.specs.Accesses.{touched, Binding, one-way, two-way, bind-boards, bind-tag, bind-blocks}
+use Rattle.protocol.specs.Accesses.{touched, bind-boards, bind-tag, bind-blocks}
+use Rattle.protocol.specs.declared.Binding.{Binding}
+use Rattle.protocol.specs.declared.Binding.the-variants.{OneWay, TwoWay}
 use Rattle.protocol.specs.Accesses.{read-binding, write-binding}
 use Rattle.protocol.specs.Calls.{Request, Read, Write, Start, Acknowledge, Fault, Power-up, Test, test, first}
 use Rattle.protocol.specs.Calls.{refusals, entry-tests, read-tests, write-tests, start-tests, acknowledge-tests}
@@ -54,10 +56,11 @@ use Rattle.protocol.proofs.Invariant.{Invariant, up, down, power-taken}
 -- ---- tags
 
 -- a put that sets no tag above p
-record Low-put (p : ℕ) (q : Put) : Type 0 where
+pub record Low-put (p : ℕ) (q : Put) : Type 0 where
   low : rank (q .area) ≡ rank Tags → q .value ≤ p
 
-tags-low : {p : ℕ} {ps : List Put} → All (Low-put p) ps → (m : Memory) (b : ℕ) → m Tags b ≤ p → after ps m Tags b ≤ p
+pub tags-low : {p : ℕ} {ps : List Put} → All (Low-put p) ps → (m : Memory) (b : ℕ) → m Tags b ≤ p
+    → after ps m Tags b ≤ p
 unfolding after change
 tags-low none m b l = l
 tags-low (also {x = q} t ts) m b l =
@@ -84,6 +87,10 @@ completing-low s m g =
     all-append (blocks-low s m Current Recovery (tagged-in g) (omega arith))
     (all-append (all-contexts s m g (λ i x v l e k. low-put Checkpoint (omega arith)))
     (also (low-put Decision (omega arith)) none))
+
+pub first-low : {p : ℕ} (s : Shape) (m : Memory) → All (Low-put p) (completed-first s m)
+unfolding completed-first
+first-low s m = all-cond (eqb (m Decision 0) 1) (λ e. completing-low s m (stored-group m)) (λ e. none)
 
 deciding-low : {p : ℕ} (s : Shape) (m : Memory) (g : ℕ) → All (Low-put p) (deciding s m g)
 unfolding deciding rank
@@ -126,12 +133,12 @@ bind-order : {p i : ℕ} → i < p → (how : Binding) (r : Record) (t : ℕ) �
     → Orderly p (bind-tag depend how r i t)
 unfolding bind-tag bind-boards
 bind-order l how r zero k o = o
-bind-order {i = i} l one-way r (suc j) k o =
+bind-order {i = i} l OneWay r (suc j) k o =
     ⊎-elim
     (λ (e : eqb i j ≡ true). rw e o)
     (λ (e : eqb i j ≡ false). rw e (depend-order r l k (eqb-false i j e) o))
     (decide (eqb i j))
-bind-order {i = i} l two-way r (suc j) k o =
+bind-order {i = i} l TwoWay r (suc j) k o =
     ⊎-elim
     (λ (e : eqb i j ≡ true). rw e o)
     (λ (e : eqb i j ≡ false).
@@ -308,9 +315,7 @@ power-keeps s m r limit few =
           ∙ inside-undecided (blocks-inside s (after done m) Recovery Current tagged current) (after done m)
           ∙ first-undecided s m limit few;
       tags =
-          all-append
-          (all-cond (eqb (m Decision 0) 1) (λ e. completing-low s m (stored-group m)) (λ e. none))
-          (blocks-low s (after done m) Recovery Current tagged (omega arith));
+          all-append (first-low s m) (blocks-low s (after done m) Recovery Current tagged (omega arith));
       state = fresh-order (s .boards);
       small = pow-pos 16;
     }

@@ -194,7 +194,7 @@ pub record Quiet (s : Shape) (p : Put) : Type 0 where
   pub valid : Valid s p
   pub calm : decisive p ≡ false
 
-pub quiet : {s : Shape} {ps : List Put} (k : ℕ) → All (Quiet s) ps → false ≡ anyOf decides (take k (map (raw s) ps))
+quiet : {s : Shape} {ps : List Put} (k : ℕ) → All (Quiet s) ps → false ≡ anyOf decides (take k (map (raw s) ps))
 quiet {s} {ps} k h =
     sym (made-decides s k ps (all-map (λ p q. q .valid) h) ∙ anyOf-false decisive (λ p q. q .calm) (all-take k h))
 
@@ -212,7 +212,7 @@ pub inside-quiet : (s : Shape) (k : ℕ) {ps : List Put} → All (Inside s) ps
 inside-quiet s k h = quiet k (all-map inside-calm h)
 
 -- nor does any of a power-up's
-pub recovering-calm : (s : Shape) (m : Memory) → All (Quiet s) (recovering s m)
+recovering-calm : (s : Shape) (m : Memory) → All (Quiet s) (recovering s m)
 unfolding decisive rank
 recovering-calm s m = all-recovering s m inside-calm (record { valid = decision-valid s 0; calm = refl })
 

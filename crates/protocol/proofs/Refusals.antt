@@ -81,11 +81,6 @@ none-hold (t ∷ ts) n h =
     (λ (e : t .holds ≡ false). also e (none-hold ts (both .1) (rw e at h)))
     (decide (t .holds))
 
-pub hold-none : {ts : List Test} → All (λ t. t .holds ≡ false) ts → first ts ≡ 0
-unfolding first
-hold-none none = refl
-hold-none (also e es) = rw e (hold-none es)
-
 -- no refusal has the number that says "cut"
 pub uncut : (ts : List Test) → anyOf (λ t. eqb (t .number) 9) ts ≡ false → first ts ≢ 9
 unfolding first anyOf
@@ -212,10 +207,6 @@ pub begun : {s : Shape} (image : List ℕ) (r : Record) (i : ℕ) (ts : List Tes
 begun image r i ts same e =
     let both = entry-first image r i ts e in
     (entered image r i same (both .0), both .1)
-
-pub entry-stops : (image : List ℕ) (r : Record) (i : ℕ) (ts : List Test) {n : ℕ} → n ≡ first (entry-tests image r i)
-    → n ≢ 0 → first (entry-tests image r i ++ ts) ≡ n
-entry-stops image r i ts e h = first-stops (entry-tests image r i) ts (λ z. h (e ∙ z)) ∙ sym e
 
 pub entry-goes-on : (image : List ℕ) (r : Record) (i : ℕ) (ts : List Test) → first (entry-tests image r i) ≡ 0
     → first (entry-tests image r i ++ ts) ≡ first ts

@@ -15,7 +15,9 @@ use Rattle.boards.specs.Boards.{has, meets, tagged-in, link, unlink}
 use Rattle.protocol.specs.Image.{Area, Decision, Tags, Current, Recovery, Tentative, Checkpoint, Memory, rank}
 use Rattle.protocol.specs.Image.{after, cells}
 use Rattle.volatile.specs.Volatile.{closed, depends, left-open, depend, clear}
-use Rattle.protocol.specs.Accesses.{touched, Binding, one-way, two-way, read-binding, write-binding, bind-boards}
+use Rattle.protocol.specs.Accesses.{touched, read-binding, write-binding, bind-boards}
+use Rattle.protocol.specs.declared.Binding.{Binding}
+use Rattle.protocol.specs.declared.Binding.the-variants.{OneWay, TwoWay}
 use Rattle.protocol.specs.Accesses.{bind-tag, bind-blocks}
 use Rattle.protocol.specs.Calls.{placing, tagging, blocks-copied}
 use Rattle.protocol.specs.Ledger.{pending, undone, Wrote, Read-from, Note, Ledger, is-pending, covers, written}
@@ -42,10 +44,10 @@ module _ {i : ℕ} (small : i < 16) where
       → (depends (bind-boards depend how r i j) ≡ bind-boards link how (depends r) i j) × Bounded 16
       (depends (bind-boards depend how r i j))
   unfolding bind-boards
-  depends-tie one-way r j l b =
+  depends-tie OneWay r j l b =
       let one = depends-depend r b small l in
       (one, subst (λ d. Bounded 16 d) (sym one) (link-bounded b small l))
-  depends-tie two-way r j l b =
+  depends-tie TwoWay r j l b =
       let one = depends-depend r b small l in
       let b₁ = subst (λ d. Bounded 16 d) (sym one) (link-bounded b small l) in
       let two = depends-depend (depend r i j) b₁ l small ∙ ap (λ d. link d j i) one in
@@ -73,8 +75,8 @@ module _ {i : ℕ} (small : i < 16) where
 -- it leaves the open commit alone
 commit-tie : (how : Binding) (r : Record) (i j : ℕ) → bind-boards depend how r i j .commit ≡ r .commit
 unfolding bind-boards depend
-commit-tie one-way r i j = refl
-commit-tie two-way r i j = refl
+commit-tie OneWay r i j = refl
+commit-tie TwoWay r i j = refl
 
 commit-bind : (how : Binding) (r : Record) (i t : ℕ) → bind-tag depend how r i t .commit ≡ r .commit
 unfolding bind-tag

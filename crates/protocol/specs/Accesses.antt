@@ -5,6 +5,8 @@ use mathlib.Core.Bool.{cond}
 use mathlib.Core.List.{List, [], _∷_}
 use lib.Dec.{eqb}
 use Rattle.protocol.specs.declared.Shape.{Shape}
+use Rattle.protocol.specs.declared.Binding.{Binding}
+use Rattle.protocol.specs.declared.Binding.the-variants.{OneWay, TwoWay}
 
 -- the blocks that n cells from a on touch, if n is not 0: the first, and the last if it is another
 unfoldable pub touched : Shape → ℕ → ℕ → List ℕ
@@ -13,24 +15,19 @@ touched s a n =
     let last = (a + n - 1) / s .size in
     first ∷ cond (eqb first last) [] (last ∷ [])
 
--- How an access binds its board to the active writer of a block: the board comes to depend on the writer, or
--- they come to depend on each other.
-pub data Binding : Type 0 where
-  one-way two-way : Binding
-
 -- A read makes the board depend on the writer; a write, of n cells from a on, makes them depend on each other. Both do
 -- so alike in every block b.
 unfoldable pub read-binding : ℕ → Binding
-read-binding b = one-way
+read-binding b = OneWay
 
 unfoldable pub write-binding : Shape → ℕ → ℕ → ℕ → Binding
-write-binding s a n b = two-way
+write-binding s a n b = TwoWay
 
 -- Binding, for the record and for the ledger alike: X holds dependences, and link adds one to them.
 module _ {X : Type 0} (link : X → ℕ → ℕ → X) where
   unfoldable pub bind-boards : Binding → X → ℕ → ℕ → X
-  bind-boards one-way x i j = link x i j
-  bind-boards two-way x i j = link (link x i j) j i
+  bind-boards OneWay x i j = link x i j
+  bind-boards TwoWay x i j = link (link x i j) j i
 
   -- an access by board i to a block with this tag: 0 for no writer, j + 1 for writer j
   unfoldable pub bind-tag : Binding → X → ℕ → ℕ → X

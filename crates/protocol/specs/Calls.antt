@@ -89,13 +89,16 @@ write-tests s m r i a n =
     ∷ test (has (engaged r) i || anyOf (tagged-in (engaged r)) tags) 13
     ∷ []
 
--- in these two n is the length of the context
+-- in these n is the length of the context
+abbrev pub context-test : Shape → ℕ → Test
+context-test s n = test (not (eqb n (s .context))) 3
+
 unfoldable pub start-tests : Shape → Record → ℕ → List Test
-start-tests s r n = test (not (eqb n (s .context))) 3 ∷ test (not (eqb (engaged r) 0)) 14 ∷ []
+start-tests s r n = context-test s n ∷ test (not (eqb (engaged r) 0)) 14 ∷ []
 
 unfoldable pub acknowledge-tests : Shape → Record → ℕ → ℕ → List Test
 acknowledge-tests s r i n =
-    test (not (eqb n (s .context))) 3
+    context-test s n
     ∷ test (not (has (engaged r) i)) 15
     ∷ test (has (commit-of r i .acknowledged) i) 16
     ∷ []

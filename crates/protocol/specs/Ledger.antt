@@ -8,7 +8,8 @@ use lib.Dec.{eqb, ltb, leb}
 use lib.ListN.{length, getD, replicate}
 use Rattle.boards.specs.Lists.{span, anyOf, select}
 use Rattle.boards.specs.Boards.{has, with-board, meets, Links, unlinked, link, unlink, commit-group, fault-group}
-use Rattle.protocol.specs.Accesses.{touched, Binding, read-binding, write-binding, bind-blocks}
+use Rattle.protocol.specs.Accesses.{touched, read-binding, write-binding, bind-blocks}
+use Rattle.protocol.specs.declared.Binding.{Binding}
 use Rattle.protocol.specs.Calls.{Request, Read, Write, Start, Acknowledge, Fault, Power-up}
 use Rattle.protocol.specs.declared.Shape.{Shape}
 

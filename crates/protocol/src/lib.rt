@@ -9,6 +9,13 @@ pub struct Shape {
     pub context: usize,
 }
 
+// How an access binds its board to the active writer of a block: the board comes to depend on the writer, or they come
+// to depend on each other.
+pub enum Binding {
+    OneWay,
+    TwoWay,
+}
+
 // What a call answers: 0 for done, 9 for cut or the number of its refusal; whether it decided a commit;
 // the members of the commit or the boards rolled back; how many bytes it stored.
 pub struct Answer {

@@ -1,5 +1,5 @@
 -- `give` meets its contract: the context's stores, and then those of the commit if all members have acknowledged.
-use mathlib.Core.Path.{_∙_, sym, ap}
+use mathlib.Core.Path.{refl, _∙_, sym, ap}
 use borrow.Author.Needs.{needs}
 use native.Mathlib.Omega.{arith}
 use denote.Ref.{now}
@@ -44,7 +44,7 @@ commit-of-requires c κs = tt
 finish-requires : tie.Need-finish-requires
 finish-requires c κs =
     let stored = c .before .before .before .before .before in
-    left-most (makes-begun (stored .before .before .new .ensures) (stored .put-all .ensures))
+    left-most (stored .before .before .new .ensures) (stored .put-all .ensures)
 
 same-length : tie.Need-same-length
 same-length c = c .before .before .before .before .before .image .given
@@ -76,7 +76,7 @@ complete-requires c κs =
     let first = makes-begun (made .new .ensures) (stored .put-all .ensures) in (
       begin .pre .0,
       puts-length (told .announce .ensures) ∙ makes-length (stored .put-all .ensures) ∙ begin .pre .1,
-      puts-well (told .announce .ensures) (makes-well first (well-start _)),
+      puts-well (told .announce .ensures) (makes-well first (well-start refl)),
     )
 
 clear-requires : tie.Need-clear-requires
