@@ -1,21 +1,21 @@
 -- What Context and Same answer, by the tests that the code makes.
 use Prim.Native.Nat.{ℕ, _+_, _-_, _*_, _≤_, _<_}
 use mathlib.Core.Path.{_≡_, refl, sym, _∙_, ap₂}
-use mathlib.Core.Bool.{Bool, true, false, not}
+use mathlib.Core.Bool.{Bool, true, false, not, _&&_}
 use mathlib.Core.List.{List, []}
-use mathlib.Core.Logic.{_≢_}
 use lib.Dec.{eqb}
 use lib.ListN.{length, take, drop}
 use native.Mathlib.Omega.{arith}
 use native.Mathlib.Nat.{add-sub-cancel-left}
-use borrow.Author.Tests.{eq-eqb, ne-eqb, eqb-true, le-leb, lt-leb}
-use Rattle.protocol.specs.Image.{Area, Recovery, Checkpoint, cells, contexts, base, size, total, byte, shape-of}
+use borrow.Author.Tests.{eqb-true, le-leb, lt-leb}
+use Rattle.protocol.specs.Image.{Area, Recovery, Checkpoint, cells, contexts, base, size, total, byte}
 use Rattle.protocol.specs.Image.{in-order, view}
 use Rattle.protocol.specs.Calls.{first, context-tests, context-part, context-status}
 use Rattle.protocol.specs.declared.Shape.{Shape}
 use Rattle.boards.proofs.Basics.{and-true, false-and, test-ext, every-at, every-all, not-true, not-false, row-fits}
 use Rattle.protocol.proofs.Bridge.{view-at, ends-within}
-use Rattle.layout.proofs.Laws.{Geometry}
+use Rattle.layout.specs.Headers.{Shaped}
+use Rattle.layout.proofs.Laws.{bounded}
 use Rattle.inspect.specs.Same.{compare-tests, same-shape, same-area, same-areas, same-bytes, compare}
 
 -- a test's answer r, as an `if` on its negation left or took it
@@ -28,48 +28,39 @@ fails e h = sym e ∙ not-true _ h
 -- ---- Context
 
 module _ (image : List ℕ) (i : ℕ) where
-  pub context-disordered : in-order 0 image ≡ false → ([] ≡ context-part image i) × (11 ≡ context-status image i)
+  pub context-disordered : {r : List ℕ} → r ≡ [] → in-order 0 image ≡ false
+      → (r ≡ context-part image i) × (11 ≡ context-status image i)
   unfolding context-part context-tests first
-  context-disordered h = rw h (refl, refl)
+  context-disordered z e = rw (z, e) (refl, refl)
 
-  pub context-beyond : {s : Shape} → s ≡ shape-of image → in-order 0 image ≡ true → s .boards ≤ i →
-      ([] ≡ context-part image i) × (1 ≡ context-status image i)
-  unfolding context-part context-tests first
-  context-beyond e h l = rw (h, ← e, le-leb _ _ l) (refl, refl)
+  module _ {s : Shape} (h : (in-order 0 image ≡ true) × Shaped image s) where
+    pub context-beyond : {r : List ℕ} → r ≡ [] → s .boards ≤ i
+        → (r ≡ context-part image i) × (1 ≡ context-status image i)
+    unfolding context-part context-tests first
+    context-beyond z l = rw (z, h .0, h .1 .shape, le-leb _ _ l) (refl, refl)
 
-  pub context-within : {s : Shape} {at : ℕ} → s ≡ shape-of image → in-order 0 image ≡ true →
-      at ≡ base s Checkpoint → i < s .boards →
-      (take (at + i * s .context + s .context - (at + i * s .context)) (drop (at + i * s .context) image)
-      ≡ context-part image i) × (0 ≡ context-status image i)
-  unfolding context-part context-tests first
-  context-within e h b l = rw (h, ← e, lt-leb _ _ l, ← b, add-sub-cancel-left) (refl, refl)
+    module _ {at : ℕ} (e : at ≡ base s Checkpoint) (l : i < s .boards) where
+      pub context-within : (take (at + i * s .context + s .context - (at + i * s .context))
+          (drop (at + i * s .context) image) ≡ context-part image i) × (0 ≡ context-status image i)
+      unfolding context-part context-tests first
+      context-within = rw (h .0, h .1 .shape, lt-leb _ _ l, ← e, add-sub-cancel-left) (refl, refl)
 
--- a board's context ends within the image
-pub context-ends : {s : Shape} {image : List ℕ} {at : ℕ} (i : ℕ) → Geometry 0 s image → at ≡ base s Checkpoint →
-    i < s .boards → (at + i * s .context + s .context ≤ length image) × (length image < 65536)
-unfolding size
-context-ends {s} i g e l = omega (arith, ends-within s Checkpoint, row-fits (s .context) (s .boards) i l)
+      -- a board's context ends within the image
+      pub context-ends : (at + i * s .context + s .context ≤ length image) × (length image < 65536)
+      unfolding size
+      context-ends =
+          let most = bounded (h .1 .allowed-shape) .most-total in
+          let long = h .1 .long in
+          omega (arith, ends-within s Checkpoint, row-fits (s .context) (s .boards) i l)
 
 -- ---- Same
 
 module _ (s t : Shape) where
-  -- shapes of which one number differs are not the same
-  pub other-boards : s .boards ≢ t .boards → false ≡ same-shape s t
+  -- by the four numbers; once two differ, the rest does not matter
+  pub by-numbers : {a b d e : Bool} → eqb (s .boards) (t .boards) ≡ a → eqb (s .size) (t .size) ≡ b
+      → eqb (s .blocks) (t .blocks) ≡ d → eqb (s .context) (t .context) ≡ e → a && (b && (d && e)) ≡ same-shape s t
   unfolding same-shape
-  other-boards h = rw (ne-eqb _ _ h)
-
-  pub other-size : s .boards ≡ t .boards → s .size ≢ t .size → false ≡ same-shape s t
-  unfolding same-shape
-  other-size a h = rw (eq-eqb _ _ a, ne-eqb _ _ h)
-
-  pub other-blocks : s .boards ≡ t .boards → s .size ≡ t .size → s .blocks ≢ t .blocks → false ≡ same-shape s t
-  unfolding same-shape
-  other-blocks a b h = rw (eq-eqb _ _ a, eq-eqb _ _ b, ne-eqb _ _ h)
-
-  pub by-context : s .boards ≡ t .boards → s .size ≡ t .size → s .blocks ≡ t .blocks →
-      eqb (s .context) (t .context) ≡ same-shape s t
-  unfolding same-shape
-  by-context a b d = rw (eq-eqb _ _ a, eq-eqb _ _ b, eq-eqb _ _ d)
+  by-numbers p q r u = rw (p, q, r, u)
 
   -- the same shape is equal
   pub same-equal : same-shape s t ≡ true → s ≡ t
@@ -117,22 +108,19 @@ area-ends s a p e = omega (arith, ends-within s a)
 module _ (image other : List ℕ) where
   pub first-disordered : in-order 0 image ≡ false → record { status = 11; same = false } ≡ compare image other
   unfolding compare compare-tests first
-  first-disordered h = rw h
+  first-disordered e = rw e
 
-  pub second-disordered : in-order 0 image ≡ true → in-order 0 other ≡ false →
-      record { status = 11; same = false } ≡ compare image other
-  unfolding compare compare-tests first
-  second-disordered h k = rw (h, k)
+  module _ {s : Shape} (h : (in-order 0 image ≡ true) × Shaped image s) where
+    pub second-disordered : in-order 0 other ≡ false → record { status = 11; same = false } ≡ compare image other
+    unfolding compare compare-tests first
+    second-disordered e = rw (h .0, e)
 
-  pub other-shape : {s t : Shape} → s ≡ shape-of image → t ≡ shape-of other →
-      in-order 0 image ≡ true → in-order 0 other ≡ true → same-shape s t ≡ false →
-      record { status = 0; same = false } ≡ compare image other
-  unfolding compare compare-tests first
-  other-shape e f h k d = rw (h, k, ← e, ← f, d)
+    module _ {t : Shape} (k : (in-order 0 other ≡ true) × Shaped other t) where
+      pub other-shape : same-shape s t ≡ false → record { status = 0; same = false } ≡ compare image other
+      unfolding compare compare-tests first
+      other-shape d = rw (h .0, k .0, h .1 .shape, k .1 .shape, d)
 
-  pub one-shape : {s t : Shape} {r : Bool} → s ≡ shape-of image → t ≡ shape-of other →
-      in-order 0 image ≡ true → in-order 0 other ≡ true → same-shape s t ≡ true
-      → r ≡ same-areas s (view s image) (view s other) →
-      record { status = 0; same = r } ≡ compare image other
-  unfolding compare compare-tests first same-areas
-  one-shape {s} {t} e f h k d a = rw (a, h, k, ← e, ← f, d, ← same-equal s t d)
+      pub one-shape : {r : Bool} → same-shape s t ≡ true → r ≡ same-areas s (view s image) (view s other)
+          → record { status = 0; same = r } ≡ compare image other
+      unfolding compare compare-tests first same-areas
+      one-shape d a = rw (a, h .0, k .0, h .1 .shape, k .1 .shape, d, ← same-equal s t d)

@@ -1,30 +1,37 @@
 // The two calls that only look at images: a board's recovery context, and whether two images are the same.
+use layout::Header;
 use layout::checkpoint_at;
-use layout::in_order;
+use layout::read_header;
 use layout::recovery_at;
-use layout::shape_of;
 use protocol::Shape;
 ghost use mathlib.Core.Path.{_≡_};
 ghost use mathlib.Core.Bool.{true};
+ghost use mathlib.Core.List.{[]};
 ghost use Prim.Native.Nat.{_+_, _≤_};
 ghost use lib.ListN.{length};
 ghost use Rattle.protocol.specs.Image.{allowed, total, view};
 ghost use Rattle.protocol.specs.Calls.{context-part, context-status};
 ghost use Rattle.inspect.specs.Same.{same-shape, same-bytes, same-areas, compare};
 
+// No bytes of an image.
+fn nothing(image: &[u8]) -> &[u8]
+    ensures { λ r. ⌜ now r ≡ [] ⌝ }
+{
+    &image[0..0]
+}
+
 // A board's recovery context, as that part of the image itself; `status` becomes 0 or the refusal, whose part is empty.
 pub fn context<'a>(image: &'a [u8], board: usize, status: &mut u8) -> &'a [u8]
     ensures { λ r. ⌜ (now r ≡ context-part (now (image .entry)) board)
         × (now (status .exit) ≡ context-status (now (image .entry)) board) ⌝ }
 {
-    if !in_order(image, 0) {
+    let Header::InOrder(s) = read_header(image, 0) else {
         *status = 11;
-        return &image[0..0];
-    }
-    let s = shape_of(image);
+        return nothing(image);
+    };
     if board >= s.boards {
         *status = 1;
-        return &image[0..0];
+        return nothing(image);
     }
     *status = 0;
     let size = s.context;
@@ -89,20 +96,18 @@ fn same_areas(image: &[u8], other: &[u8], s: Shape) -> bool
 pub fn same(image: &[u8], other: &[u8]) -> Compared
     ensures { λ r. ⌜ r ≡ compare (now (image .entry)) (now (other .entry)) ⌝ }
 {
-    if !in_order(image, 0) {
+    let Header::InOrder(s) = read_header(image, 0) else {
         return Compared {
             status: 11,
             same: false,
         };
-    }
-    if !in_order(other, 0) {
+    };
+    let Header::InOrder(t) = read_header(other, 0) else {
         return Compared {
             status: 11,
             same: false,
         };
-    }
-    let s = shape_of(image);
-    let t = shape_of(other);
+    };
     if !same_shape(s, t) {
         return Compared {
             status: 0,

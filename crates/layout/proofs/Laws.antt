@@ -15,6 +15,9 @@ use Rattle.protocol.specs.Image.{allowed, exponent, exponent-from, total, byte,
 use Rattle.protocol.specs.Image.{size, view}
 use Rattle.protocol.specs.declared.Shape.{Shape}
 use Rattle.boards.proofs.Basics.{decide, refute, any-some, some-any}
+use Rattle.layout.specs.Headers.{Shaped, Header-of, named, unnamed}
+use Rattle.layout.specs.declared.Header.{Header}
+use Rattle.layout.specs.declared.Header.the-variants.{InOrder, Disordered}
 use Rattle.protocol.proofs.Bridge.{Limits, limits, Sound, order-sound, view-at}
 
 -- ---- sizes
@@ -119,14 +122,24 @@ geometry {image} h =
       decision = both .1;
     }
 
--- the same of a shape that was read from it
-pub geometry-of : {most : ℕ} {s : Shape} {image : List ℕ} → s ≡ shape-of image → in-order most image ≡ true →
-    Geometry most s image
-geometry-of {most} {image} e h = subst (λ t. Geometry most t image) (sym e) (geometry h)
+-- what a header that was read tells
+module _ {most : ℕ} {image : List ℕ} where
+  naming : {s : Shape} → Header-of most image (InOrder s) → (in-order most image ≡ true) × Shaped image s
+  naming (named e h) = (e, h)
+
+  failing : Header-of most image Disordered → in-order most image ≡ false
+  failing (unnamed e) = e
+
+  pub headed : {h : Header} {s : Shape} → Header-of most image h → h ≡ InOrder s
+      → (in-order most image ≡ true) × Shaped image s
+  headed r e = naming (subst (Header-of most image) e r)
+
+  pub unheaded : {h : Header} → Header-of most image h → h ≡ Disordered → in-order most image ≡ false
+  unheaded r e = failing (subst (Header-of most image) e r)
 
 -- an image is out of order if any of that fails
-pub disordered : {most : ℕ} {image : List ℕ} → (Geometry most (shape-of image) image → ⊥) → false ≡ in-order most image
-disordered {most} {image} h = sym (refute (in-order most image) (λ e. h (geometry e)))
+pub disordered : {most : ℕ} {image : List ℕ} → (Geometry most (shape-of image) image → ⊥) → in-order most image ≡ false
+disordered {most} {image} h = refute (in-order most image) (λ e. h (geometry e))
 
 -- a block's tag in the image
 pub tag-read : (s : Shape) (x : List ℕ) (b : ℕ) → b < s .blocks → view s x Tags b ≡ getD x (12 + b) 0

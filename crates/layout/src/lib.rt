@@ -7,7 +7,8 @@ ghost use lib.Dec.{eqb};
 ghost use lib.ListN.{length, getD};
 ghost use Rattle.boards.specs.Lists.{every};
 ghost use Rattle.protocol.specs.Image.{Current, Recovery, Tentative, Checkpoint, mark, header, byte};
-ghost use Rattle.protocol.specs.Image.{allowed, exponent, shape-of, in-order, base, total};
+ghost use Rattle.protocol.specs.Image.{allowed, exponent, shape-of, base, total};
+ghost use Rattle.layout.specs.Headers.{Header-of};
 
 // The mark, hexadecimal 52 53 4D 31: what every header test compares and formatting stores.
 pub const MARK: [u8; 4] = *b"RSM1";
@@ -68,7 +69,7 @@ pub fn allowed(s: Shape) -> bool
 }
 
 // Whether the first four bytes are the mark.
-pub fn mark_ok(image: &[u8]) -> bool
+fn mark_ok(image: &[u8]) -> bool
     requires { ⌜ 4 ≤ length (now image) ⌝ }
     ensures { λ r. ⌜ r ≡ every 4 (λ i. eqb (byte (now (image .entry)) i) (byte mark i)) ⌝ }
 {
@@ -83,7 +84,7 @@ pub fn mark_ok(image: &[u8]) -> bool
 }
 
 // The shape that a header names.
-pub fn shape_of(image: &[u8]) -> Shape
+fn shape_of(image: &[u8]) -> Shape
     requires { ⌜ (9 ≤ length (now image)) × (byte (now image) 5 ≤ 6) ⌝ }
     ensures { λ r. ⌜ r ≡ shape-of (now (image .entry)) ⌝ }
 {
@@ -134,27 +135,36 @@ pub fn total(s: Shape) -> usize
     checkpoint_at(s) + s.boards * s.context
 }
 
-// Whether an image is in order: the mark, an allowed shape, the exact length, byte 9 at most `most`.
-pub fn in_order(image: &[u8], most: u8) -> bool
-    ensures { λ r. ⌜ r ≡ in-order most (now (image .entry)) ⌝ }
+// An image in order, with the shape that its header names, or one that is not.
+pub enum Header {
+    InOrder(Shape),
+    Disordered,
+}
+
+// The header of an image: the mark, an allowed shape, the exact length, byte 9 at most `most`.
+pub fn read_header(image: &[u8], most: u8) -> Header
+    ensures { λ r. ⌜ Header-of most (now (image .entry)) r ⌝ }
 {
     if image.len() < TAGS {
-        return false;
+        return Header::Disordered;
     }
     if !mark_ok(image) {
-        return false;
+        return Header::Disordered;
     }
     if image[5] > 6 {
-        return false;
+        return Header::Disordered;
     }
     let s = shape_of(image);
     if !allowed(s) {
-        return false;
+        return Header::Disordered;
     }
     if image.len() != total(s) {
-        return false;
+        return Header::Disordered;
     }
-    image[DECISION] <= most
+    if image[DECISION] > most {
+        return Header::Disordered;
+    }
+    Header::InOrder(s)
 }
 
 // The byte that formatting stores at i of the header.

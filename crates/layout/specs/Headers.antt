@@ -1,0 +1,21 @@
+-- What a header is read as.
+use Prim.Native.Nat.{ℕ}
+use mathlib.Core.Path.{_≡_}
+use mathlib.Core.Bool.{true, false}
+use mathlib.Core.List.{List}
+use lib.ListN.{length}
+use Rattle.protocol.specs.Image.{allowed, in-order, shape-of, total}
+use Rattle.protocol.specs.declared.Shape.{Shape}
+use Rattle.layout.specs.declared.Header.{Header}
+use Rattle.layout.specs.declared.Header.the-variants.{InOrder, Disordered}
+
+-- an image of an allowed shape, which its header names, and of exactly that shape's length
+pub record Shaped (image : List ℕ) (s : Shape) : Type 0 where
+  pub shape : shape-of image ≡ s
+  pub allowed-shape : allowed s ≡ true
+  pub long : length image ≡ total s
+
+-- in order, byte 9 being at most `most`, and of that shape; or not in order
+pub data Header-of (most : ℕ) (image : List ℕ) : Header → Type 0 where
+  named : {s : Shape} → in-order most image ≡ true → Shaped image s → Header-of most image (InOrder s)
+  unnamed : in-order most image ≡ false → Header-of most image Disordered
