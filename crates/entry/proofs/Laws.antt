@@ -1,58 +1,83 @@
 -- The first tests of a call, and what a call that passed them knows.
-use Prim.Native.Nat.{ℕ, _+_, _-_, _≤_, _<_}
-use mathlib.Core.Path.{_≡_, refl, sym, _∙_, ap}
+use Prim.Native.Nat.{ℕ, _≤_, _<_}
+use mathlib.Core.Path.{_≡_, sym, _∙_, ap, subst}
 use mathlib.Core.Bool.{true, false}
 use mathlib.Core.List.{List, _++_}
-use lib.ListN.{length}
-use native.Mathlib.Omega.{arith}
+use mathlib.Core.Logic.{_⊎_, inl, inr, _≢_}
 use borrow.Author.Tests.{le-leb, lt-leb}
-use Rattle.protocol.specs.Image.{allowed, total, in-order, shape-of, byte}
+use Rattle.protocol.specs.Image.{in-order, shape-of}
 use Rattle.volatile.specs.Volatile.{bad-record}
-use Rattle.protocol.specs.Calls.{Test, first, entry-tests}
+use Rattle.protocol.specs.Calls.{Request, Test, first, entry-tests, refusal-at, refusal-of, record-refused}
 use Rattle.protocol.specs.declared.Shape.{Shape}
 use Rattle.volatile.specs.declared.Record.{Record}
-use Rattle.protocol.proofs.Refusals.{entered, entry-goes-on}
-use Rattle.layout.proofs.Laws.{Geometry, geometry}
+use Rattle.protocol.specs.declared.Reply.{Reply}
+use Rattle.store.specs.Promise.{Performed}
+use Rattle.store.proofs.Ends.{turned}
+use Rattle.protocol.proofs.Bridge.{board-small}
+use Rattle.protocol.proofs.Refusals.{first-stops}
+use Rattle.layout.proofs.Laws.{bounded}
+use Rattle.entry.specs.Tested.{Tested, refused, passed, number-of, entry-says, Entry-passed}
+use Rattle.entry.specs.declared.Entry.{Entry}
+use Rattle.entry.specs.declared.Entry.the-variants.{Taken}
 
--- ---- the three first tests
-
+-- the three first tests, by the shape that was read
 module _ (image : List ℕ) (r : Record) (i : ℕ) where
-  pub entry-eleven : false ≡ in-order 0 image → 11 ≡ first (entry-tests image r i)
+  pub entry-eleven : in-order 0 image ≡ false → first (entry-tests image r i) ≡ 11
   unfolding entry-tests first
-  entry-eleven e = rw (← e)
+  entry-eleven e = rw e
 
-  pub entry-twelve : true ≡ in-order 0 image → true ≡ bad-record (byte image 4) r → 12 ≡ first (entry-tests image r i)
-  unfolding entry-tests first shape-of
-  entry-twelve e f = rw (← e, ← f)
+  module _ {s : Shape} (e : in-order 0 image ≡ true) (same : shape-of image ≡ s) where
+    pub entry-twelve : bad-record (s .boards) r ≡ true → first (entry-tests image r i) ≡ 12
+    unfolding entry-tests first
+    entry-twelve f = rw (e, same, f)
 
-  pub entry-one : true ≡ in-order 0 image → false ≡ bad-record (byte image 4) r → byte image 4 ≤ i
-      → 1 ≡ first (entry-tests image r i)
-  unfolding entry-tests first shape-of
-  entry-one e f l = rw (← e, ← f, le-leb (byte image 4) i l)
+    module _ (f : bad-record (s .boards) r ≡ false) where
+      pub entry-one : s .boards ≤ i → first (entry-tests image r i) ≡ 1
+      unfolding entry-tests first
+      entry-one l = rw (e, same, f, le-leb (s .boards) i l)
 
-  pub entry-none : true ≡ in-order 0 image → false ≡ bad-record (byte image 4) r → i < byte image 4
-      → 0 ≡ first (entry-tests image r i)
-  unfolding entry-tests first shape-of
-  entry-none e f l = rw (← e, ← f, lt-leb (byte image 4) i l)
+      pub entry-none : i < s .boards → first (entry-tests image r i) ≡ 0
+      unfolding entry-tests first
+      entry-none l = rw (e, same, f, lt-leb (s .boards) i l)
 
-  -- what a call that passed them knows
-  module _ (passed : 0 ≡ first (entry-tests image r i)) where
-    pub entry-geometry : Geometry 0 (shape-of image) image
-    entry-geometry = geometry (entered image r i refl (sym passed) .ordered)
+-- a board is one of sixteen
+pub small : {image : List ℕ} {r : Record} {i : ℕ} {s : Shape} → Entry-passed image r i s → i < 16
+small h = board-small (bounded (h .shaped .allowed-shape) .limits) (h .board)
 
-    pub entry-board : i < shape-of image .boards
-    entry-board = entered image r i refl (sym passed) .board
+-- ---- tests that were answered by an enum
 
-    pub entry-small : i < 16
-    entry-small = omega (arith, entry-board, entry-geometry .shape .limits .most-boards)
+passing : {T : Type 0} {n : ℕ} {Known : T → Type 0} {t : T} → Tested n Known (inr t) → (n ≡ 0) × Known t
+passing (passed z k) = (z, k)
 
-    -- the same of the shape that was read
-    pub ready : {s : Shape} → s ≡ shape-of image → (allowed s ≡ true) × (length image ≡ total s) × (i < s .boards)
-    ready same = rw same (entry-geometry .sound .allowed-shape, entry-geometry .sound .long, entry-board)
+refusing : {T : Type 0} {n m : ℕ} {Known : T → Type 0} → Tested n Known (inl m) → (n ≡ m) × (m ≢ 0)
+refusing (refused e h) = (e, h)
 
--- a call's own tests go on, made for the shape that was read
-pub own-tests : (image : List ℕ) (r : Record) (i : ℕ) (tests : Shape → List Test) {s : Shape} {k : ℕ}
-    → 0 ≡ first (entry-tests image r i) → s ≡ shape-of image → k ≡ first (tests s)
-    → k ≡ first (entry-tests image r i ++ tests (shape-of image))
-own-tests image r i tests passed same e =
-    e ∙ ap (λ t. first (tests t)) same ∙ sym (entry-goes-on image r i (tests (shape-of image)) (sym passed))
+module _ {T : Type 0} {Known : T → Type 0} {e : ℕ ⊎ T} where
+  pub if-passed : {n : ℕ} {t : T} → Tested n Known e → e ≡ inr t → (n ≡ 0) × Known t
+  if-passed {n} t q = passing (subst (Tested n Known) q t)
+
+  pub if-refused : {m n j : ℕ} → Tested n Known e → e ≡ inl j → m ≡ number-of e → (n ≡ m) × (m ≢ 0)
+  if-refused {n = n} t q f =
+      let both = refusing (subst (Tested n Known) q t) in
+      let same = sym (f ∙ ap number-of q) in
+      (both .0 ∙ same, subst (λ x. x ≢ 0) same (both .1))
+
+  -- the first of a call's tests refuse it, whatever follows them
+  pub refused-first : (ts us : List Test) {m j : ℕ} → Tested (first ts) Known e → e ≡ inl j → m ≡ number-of e
+      → (first (ts ++ us) ≡ m) × (m ≢ 0)
+  refused-first ts us t q f =
+      let both = if-refused t q f in
+      (first-stops ts us (λ z. both .1 (sym (both .0) ∙ z)) ∙ both .0, both .1)
+
+  pub call-refused-first : {image : List ℕ} (state : Record) (request : Request) (ts us : List Test) {k m n : ℕ}
+      {next : Record} {reply : Reply} → Tested (first ts) Known e → refusal-at image state request ≡ first (ts ++ us)
+      → e ≡ inl n → m ≡ number-of e → reply ≡ refusal-of m next → next ≡ record-refused state request
+      → Performed request k image state reply image
+  call-refused-first state request ts us t same q f g h =
+      let both = refused-first ts us t q f in
+      turned state request (same ∙ both .0) (both .1) h g
+
+-- tests that answered Taken
+pub if-taken : {n : ℕ} {Known : Shape → Type 0} {e : Entry} {s : Shape} → Tested n Known (entry-says e) → e ≡ Taken s
+    → (n ≡ 0) × Known s
+if-taken t q = if-passed t (ap entry-says q)

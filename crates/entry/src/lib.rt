@@ -1,25 +1,46 @@
-// What the calls of a board test before anything else, in the stated order.
+// What the calls of a board test before anything else, in the stated order, and what a call that passes then knows.
 pub mod checks;
 
 use crate::checks::bad_record;
-use layout::in_order;
+use layout::Header;
+use layout::read_header;
+use protocol::Shape;
 use volatile::Record;
 ghost use mathlib.Core.Path.{_≡_};
 ghost use Rattle.protocol.specs.Calls.{first, entry-tests};
+ghost use Rattle.entry.specs.Tested.{entry-says, number-of, Tested, Entry-passed};
 
-// 11 for the header, 12, 1; 0 if none of them holds.
-pub fn entry_refusal(image: &[u8], state: Record, board: usize) -> u8
-    ensures { λ r. ⌜ r ≡ first (entry-tests (now (image .entry)) state board) ⌝ }
+// What tests answer: the number of the refusal, or, for a call that they take, the image's shape.
+pub enum Entry {
+    Refused(u8),
+    Taken(Shape),
+}
+
+impl Entry {
+    // The number of the refusal, 0 for none.
+    pub fn number(self) -> u8
+        ensures { λ r. ⌜ r ≡ number-of (entry-says self) ⌝ }
+    {
+        match self {
+            Entry::Refused(n) => n,
+            Entry::Taken(_) => 0,
+        }
+    }
+}
+
+// 11 for the header, 12, 1.
+pub fn enter(image: &[u8], state: Record, board: usize) -> Entry
+    ensures { λ r. ⌜ Tested (first (entry-tests (now (image .entry)) state board))
+        (Entry-passed (now (image .entry)) state board) (entry-says r) ⌝ }
 {
-    if !in_order(image, 0) {
-        return 11;
+    let Header::InOrder(s) = read_header(image, 0) else {
+        return Entry::Refused(11);
+    };
+    if bad_record(s.boards as u8, state) {
+        return Entry::Refused(12);
     }
-    let p = image[4];
-    if bad_record(p, state) {
-        return 12;
+    if board >= s.boards {
+        return Entry::Refused(1);
     }
-    if board >= p as usize {
-        return 1;
-    }
-    0
+    Entry::Taken(s)
 }

@@ -1,8 +1,8 @@
 // The fault of a board, which rolls back all who depend on it.
 use blocks::copy_blocks;
-use entry::entry_refusal;
+use entry::Entry;
+use entry::enter;
 use groups::fault_closure;
-use layout::shape_of;
 use protocol::Reply;
 use store::Budget;
 use store::answers::finish;
@@ -15,18 +15,14 @@ ghost use Rattle.store.specs.Promise.{Performed};
 pub fn fault(image: &mut [u8], state: Record, board: usize, k: usize) -> Reply
     ensures { λ r. ⌜ Performed (Fault board) k (now (image .entry)) state r (now (image .exit)) ⌝ }
 {
-    let n = entry_refusal(image, state, board);
-    if n != 0 {
-        return refusal(n, state);
-    }
-    let s = shape_of(image);
+    let entry = enter(image, state, board);
+    let Entry::Taken(s) = entry else {
+        return refusal(entry.number(), state);
+    };
     let rows = state.rows;
     let group = fault_closure(rows, board as u8);
     let g = group.members;
-    let whole = Budget {
-        left: k,
-        cut: false,
-    };
+    let whole = Budget::new(k);
     let left = copy_blocks(image, s, g, false, whole);
     let next = state.clear(group);
     finish(k, left, false, g, next)

@@ -76,7 +76,7 @@ pub fn format(image: &mut [u8], state: Record, s: Shape, k: usize) -> Reply
     if image.len() != total(s) {
         return refusal(5, state);
     }
-    let budget = Budget::new(k);
-    let left = lay_out(image, s, budget);
+    let whole = Budget::new(k);
+    let left = lay_out(image, s, whole);
     finish(k, left, false, 0, next)
 }

@@ -1,8 +1,8 @@
 -- How a call ends: from the stores made under its budget to the outcome of the definitions.
 use Prim.Native.Nat.{ℕ, _-_, _≤_}
-use mathlib.Core.Path.{_≡_, refl, sym, subst}
+use mathlib.Core.Path.{_≡_, refl, _∙_, ap₂}
 use mathlib.Core.Bool.{Bool, true, false}
-use mathlib.Core.List.{List, _∷_, map}
+use mathlib.Core.List.{List, map}
 use mathlib.Core.Logic.{_≢_}
 use lib.ListN.{take}
 use native.Mathlib.Omega.{arith}
@@ -10,16 +10,15 @@ use borrow.Author.Tests.{ne-eqb}
 use Rattle.boards.specs.Lists.{anyOf}
 use Rattle.protocol.specs.Image.{Store, raw, view, shape-of}
 use Rattle.volatile.specs.Volatile.{off}
-use Rattle.protocol.specs.Calls.{Test, test, first, Request, plan, refusals, refused, record-refused, executed, decides}
+use Rattle.protocol.specs.Calls.{Request, plan, refusal-at, refusal-of, refused, record-refused, executed, decides}
 use Rattle.protocol.specs.Calls.{perform}
 use Rattle.protocol.specs.declared.Shape.{Shape}
 use Rattle.volatile.specs.declared.Record.{Record}
 use Rattle.protocol.specs.declared.Reply.{Reply}
 use Rattle.store.specs.Budget.{Makes, start, spent}
 use Rattle.store.specs.declared.Budget.{Budget}
-use Rattle.store.proofs.Laws.{makes-count, makes-refused}
+use Rattle.store.proofs.Laws.{makes-begun, makes-count, makes-refused}
 use Rattle.store.specs.Promise.{Performed, reply-of}
-use Rattle.protocol.specs.Calls.{refusal-of}
 
 -- the two ways to answer
 module _ (k : ℕ) (r : Budget) (decided : Bool) (group : ℕ) (next : Record) where
@@ -44,34 +43,28 @@ unfolding executed reply-of
 made-outcome group next bytes decided m d = (rw (makes-refused m, d, makes-count m) refl, m .image)
 
 -- what is left is no more than there was
-pub left-most : {ss : List Store} {k : ℕ} {r : Budget} {image after : List ℕ} → Makes ss (start k) image r after → r .left ≤ k
+pub left-most : {ss : List Store} {k : ℕ} {b r : Budget} {image after : List ℕ} → b ≡ start k → Makes ss b image r after
+    → r .left ≤ k
 unfolding spent
-left-most m = rw (m .budget) (omega arith)
+left-most e m = rw (m .budget, e) (omega arith)
 
--- a call that is not refused
-pub ended : {s : Shape} {image after : List ℕ} (state : Record) (request : Request) {k : ℕ} {r : Budget}
-    → shape-of image ≡ s
-    → first (refusals image s (view s image) state request) ≡ 0
-    → Makes (map (raw s) (plan s (view s image) state request .stores)) (start k) image r after
-    → (decided : Bool) → decided ≡ anyOf decides (take k (map (raw s) (plan s (view s image) state request .stores)))
-    → Performed request k image state
-    (reply-of k r decided (plan s (view s image) state request .group)
-    (plan s (view s image) state request .next)) after
+-- a call that is taken, of which the stores of its plan were made
+pub ended : {s : Shape} {image after : List ℕ} (state : Record) (request : Request) {k : ℕ} {left : Budget}
+    {decided : Bool} {b : Budget} {group : ℕ} {next : Record} {reply : Reply} → shape-of image ≡ s
+    → refusal-at image state request ≡ 0
+    → let p = plan s (view s image) state request in
+    b ≡ start k → Makes (map (raw s) (p .stores)) b image left after
+    → decided ≡ anyOf decides (take k (map (raw s) (p .stores))) → group ≡ p .group → next ≡ p .next → reply ≡ reply-of k left decided group next
+    → Performed request k image state reply after
 unfolding perform
-ended {s} {image} state request e n m decided d =
+ended {s} {image} state request {k} {left} {decided} e n new m d f g h =
     let p = plan s (view s image) state request in
-    let both = made-outcome (p .group) (p .next) (p .bytes) decided m d in
-    record { reply = rw (e, n) (both .0); image = rw (e, n) (both .1) }
+    let both = made-outcome (p .group) (p .next) (p .bytes) decided (makes-begun new m) d in
+    record { reply = h ∙ ap₂ (reply-of k left decided) f g ∙ rw (n, e) (both .0); image = rw (n, e) (both .1) }
 
 -- a call that is refused
-pub turned : (image : List ℕ) (state : Record) (request : Request) {k n : ℕ} {next : Record}
-    → first (refusals image (shape-of image) (view (shape-of image) image) state request) ≡ n → n ≢ 0
-    → next ≡ record-refused state request
-    → Performed request k image state (refusal-of n next) image
+pub turned : {image : List ℕ} (state : Record) (request : Request) {k n : ℕ} {next : Record} {reply : Reply}
+    → refusal-at image state request ≡ n → n ≢ 0 → next ≡ record-refused state request → reply ≡ refusal-of n next
+    → Performed request k image state reply image
 unfolding perform refused
-turned image state request {n = n} f h e = record { reply = rw (f, ne-eqb n 0 h, e); image = rw (f, ne-eqb n 0 h) }
-
--- an answer that equals one that was promised
-pub answers : {request : Request} {k : ℕ} {before after : List ℕ} {state : Record} {r promised : Reply} → r ≡ promised
-    → Performed request k before state promised after → Performed request k before state r after
-answers {request} {k} {before} {after} {state} e p = subst (λ a. Performed request k before state a after) (sym e) p
+turned state request {n = n} f h e g = record { reply = g ∙ rw (f, ne-eqb n 0 h, e); image = rw (f, ne-eqb n 0 h) }

@@ -48,8 +48,8 @@ spent-more m n b =
         (decide (ltb k m))
 
 -- a budget that refused a store has none left
-pub well-start : (k : ℕ) → WellBudget (start k)
-well-start k h = clash h refl
+pub well-start : {k : ℕ} {b : Budget} → b ≡ start k → WellBudget b
+well-start e h = clash h (ap (λ (b : Budget). b .cut) e)
 
 pub well-spent : (n : ℕ) (b : Budget) → WellBudget b → WellBudget (spent n b)
 unfolding spent

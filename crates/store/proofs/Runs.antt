@@ -10,8 +10,7 @@ use native.Mathlib.Nat.{zero-add}
 use native.Mathlib.Numerals.{add-one}
 use Rattle.boards.specs.Lists.{span}
 use Rattle.protocol.specs.Image.{Store, made}
-use Rattle.boards.proofs.Basics.{All, all-take, take-map}
-pub use Rattle.boards.proofs.Basics.{span-more}
+use Rattle.boards.proofs.Basics.{All, all-take, take-map, span-more}
 use Rattle.protocol.proofs.Bridge.{made-else}
 use Rattle.store.specs.declared.Budget.{Budget}
 use Rattle.store.specs.Budget.{Makes}

@@ -1,111 +1,85 @@
 -- `fault` meets its contract: refused, or the group's blocks restored and its rows emptied.
 use mathlib.Core.Path.{sym, _∙_, ap, refl}
+use mathlib.Core.List.{[]}
 use native.Mathlib.Omega.{arith}
-use denote.Ref.{now}
 use Rattle.boards.specs.Rows.{emptied}
 use Rattle.volatile.specs.Volatile.{depends}
+use Rattle.protocol.specs.Calls.{Fault, refusals, entry-tests, record-refused}
 use Rattle.store.proofs.Laws.{well-start}
-use Rattle.store.proofs.Ends.{left-most, answers}
-use Rattle.entry.proofs.Laws.{entry-geometry, entry-small}
+use Rattle.store.proofs.Ends.{left-most}
 use Rattle.blocks.specs.Banks.{bank}
-use Rattle.fault.proofs.Laws.{fault-refused, fault-done}
+use Rattle.entry.specs.Tested.{entry-says}
+use Rattle.entry.proofs.Laws.{small, if-taken, call-refused-first}
+use Rattle.fault.proofs.Laws.{fault-done}
 use Rattle.fault.proofs.fault.Statement.{statement}
 use Rattle.fault.proofs.fault.Tie as tie
 
-entry-refusal-requires : tie.Need-entry-refusal-requires
-entry-refusal-requires c κs = tt
-
-refusal-requires : tie.Need-refusal-requires
-refusal-requires c κs = tt
-
-same-length : tie.Need-same-length
-same-length c = refl
-
 returns : tie.Need-returns
+unfolding refusals entry-tests record-refused
 returns c =
-    let tested = c .before .before in
-    let args = tested .before .before .before .args in
-    answers (c .refusal .ensures)
-    (fault-refused (now (args .image)) (args .state) (args .board) (args .k) (tested .entry-refusal .ensures)
-    (c .before .if1 .taken))
-
-shape-of-requires : tie.Need-shape-of-requires
-shape-of-requires c κs =
-    let tested = c .before .before in
-    let args = tested .before .before .before .args in
-    let g = entry-geometry (now (args .image)) (args .state) (args .board)
-    (sym (c .before .if1 .left) ∙ tested .entry-refusal .ensures) in
-    (omega (arith, g .enough), g .power)
+    let asked = c .before .before in
+    let entered = asked .before .before in
+    let args = entered .before .before .before .args in
+    call-refused-first (args .state) (Fault (args .board)) (entry-tests _ (args .state) (args .board)) []
+    (entered .enter .ensures) refl (ap entry-says (asked .enum-told .given .1)) (c .before .number .ensures)
+    (c .refusal .ensures) refl
 
 cast-fault-closure : tie.Need-cast-fault-closure
 cast-fault-closure c =
-    let taken = c .before .before .before in
-    let tested = taken .before in
-    let args = tested .before .before .before .args in
-    let small = entry-small (now (args .image)) (args .state) (args .board)
-    (sym (taken .if1 .left) ∙ tested .entry-refusal .ensures) in
-    omega (arith, small)
+    let opened = c .before .before in
+    omega (arith, small (if-taken (opened .before .before .enter .ensures) (opened .entry .given .1) .1))
 
 fault-closure-requires : tie.Need-fault-closure-requires
 fault-closure-requires c κs =
-    let taken = c .before .before .before in
-    let tested = taken .before in
-    let args = tested .before .before .before .args in
-    entry-small (now (args .image)) (args .state) (args .board)
-    (sym (taken .if1 .left) ∙ tested .entry-refusal .ensures)
+    let opened = c .before .before in
+    small (if-taken (opened .before .before .enter .ensures) (opened .entry .given .1) .1)
 
 copy-blocks-requires : tie.Need-copy-blocks-requires
 copy-blocks-requires c κs =
-    let shaped = c .before .before .before in
-    let taken = shaped .before .before in
-    let tested = taken .before in
-    let args = tested .before .before .before .args in
-    let g = entry-geometry (now (args .image)) (args .state) (args .board)
-    (sym (taken .if1 .left) ∙ tested .entry-refusal .ensures) in
-    let same = shaped .shape-of .ensures in
-    (rw same (g .sound .allowed-shape), rw same (g .sound .long), well-start (args .k))
+    let opened = c .before .before .before .before .before in
+    let ready = if-taken (opened .before .before .enter .ensures) (opened .entry .given .1) .1 in
+    (ready .shaped .allowed-shape, ready .shaped .long, well-start (c .before .new .ensures))
 
 clear-requires : tie.Need-clear-requires
 clear-requires c κs =
-    let copied = c .before .before in
-    let grouped = copied .before .before in
-    let args = grouped .before .before .before .before .before .before .before .before .args in
-    let group = grouped .fault-closure .ensures in
-    group .left ∙ ap (emptied (args .state .rows)) (sym (group .members))
+    let group = c .before .before .before .before .before .fault-closure .ensures in
+    group .left ∙ ap (emptied _) (sym (group .members))
 
 finish-requires : tie.Need-finish-requires
-finish-requires c κs = left-most (c .before .before .before .copy-blocks .ensures .makes)
+finish-requires c κs =
+    let copied = c .before .before .before in
+    left-most (copied .before .before .new .ensures) (copied .copy-blocks .ensures .makes)
 
 same-length-2 : tie.Need-same-length-2
 same-length-2 c = c .before .before .before .image .given
 
 returns-2 : tie.Need-returns-2
-unfolding bank depends
+unfolding refusals bank depends
 returns-2 c =
-    let cleared = c .before in
-    let copied = cleared .before .before .before in
-    let grouped = copied .before .before in
-    let shaped = grouped .before .before in
-    let taken = shaped .before .before in
-    let tested = taken .before in
-    let args = tested .before .before .before .args in
-    let group = grouped .fault-closure .ensures .members in
-    answers (c .finish .ensures)
-    (fault-done (now (args .image)) (args .state) (args .board) (args .k) _ (shaped .shape-of .ensures)
-    (sym (taken .if1 .left) ∙ tested .entry-refusal .ensures) group (cleared .clear .ensures)
-    (copied .copy-blocks .ensures))
+    let copied = c .before .before .before .before in
+    let begun = copied .before .before in
+    let opened = begun .before .before .before .before in
+    let entered = opened .before .before in
+    let args = entered .before .before .before .args in
+    let known = if-taken (entered .enter .ensures) (opened .entry .given .1) in
+    let group = begun .before .fault-closure .ensures .members in
+    fault-done (args .state) (args .board) (known .1 .shaped .shape) (known .0) group (c .before .clear .ensures)
+    (begun .new .ensures) (copied .copy-blocks .ensures) (c .finish .ensures)
 
 pub fault-spec : {M : Type 1} → statement M
 fault-spec =
     tie.close
     (tie.spec
-    entry-refusal-requires
-    refusal-requires
-    same-length
+    (λ c κs. tt)
+    (λ c. omega arith)
+    (λ c. omega arith)
+    (λ c κs. tt)
+    (λ c κs. tt)
+    (λ c. refl)
     returns
-    shape-of-requires
     cast-fault-closure
     fault-closure-requires
+    (λ c κs. tt)
     copy-blocks-requires
     clear-requires
     finish-requires

@@ -52,7 +52,7 @@ lay-out-requires c κs =
 finish-requires : tie.Need-finish-requires
 finish-requires c κs =
     let laid = c .before .before in
-    left-most (makes-begun (laid .before .before .new .ensures) (laid .lay-out .ensures))
+    left-most (laid .before .before .new .ensures) (laid .lay-out .ensures)
 
 same-length : tie.Need-same-length
 same-length c = c .before .before .image .given
