@@ -2,27 +2,41 @@
 use boards::rows::without;
 use boards::sets::has;
 use decision::give;
-use entry::entry_refusal;
+use entry::Entry;
+use entry::enter;
 use groups::commit_closure;
-use layout::shape_of;
 use protocol::Reply;
 use store::answers::refusal;
 use volatile::Record;
-ghost use Rattle.protocol.specs.Calls.{Start, Acknowledge};
+ghost use lib.ListN.{length};
+ghost use Rattle.protocol.specs.Calls.{Start, Acknowledge, first};
 ghost use Rattle.store.specs.Promise.{Performed};
+ghost use Rattle.entry.specs.Tested.{entry-says, Tested};
+ghost use Rattle.commit.specs.Begin.{begin-tests, Offered};
+
+// How both begin: the tests of every call, then 3.
+fn begin(image: &[u8], state: Record, board: usize, context: &[u8]) -> Entry
+    ensures { λ r. ⌜ Tested (first (begin-tests (now (image .entry)) state board (length (now (context .entry)))))
+        (Offered (now (image .entry)) state board (length (now (context .entry)))) (entry-says r) ⌝ }
+{
+    let entry = enter(image, state, board);
+    let Entry::Taken(s) = entry else {
+        return entry;
+    };
+    if context.len() != s.context {
+        return Entry::Refused(3);
+    }
+    Entry::Taken(s)
+}
 
 pub fn start(image: &mut [u8], state: Record, board: usize, context: &[u8], k: usize) -> Reply
     ensures { λ r. ⌜ Performed (Start board (now (context .entry))) k
         (now (image .entry)) state r (now (image .exit)) ⌝ }
 {
-    let n = entry_refusal(image, state, board);
-    if n != 0 {
-        return refusal(n, state);
-    }
-    let s = shape_of(image);
-    if context.len() != s.context {
-        return refusal(3, state);
-    }
+    let entry = begin(image, state, board, context);
+    let Entry::Taken(s) = entry else {
+        return refusal(entry.number(), state);
+    };
     if state.engaged() != 0 {
         return refusal(14, state);
     }
@@ -37,14 +51,10 @@ pub fn acknowledge(image: &mut [u8], state: Record, board: usize, context: &[u8]
     ensures { λ r. ⌜ Performed (Acknowledge board (now (context .entry))) k
         (now (image .entry)) state r (now (image .exit)) ⌝ }
 {
-    let n = entry_refusal(image, state, board);
-    if n != 0 {
-        return refusal(n, state);
-    }
-    let s = shape_of(image);
-    if context.len() != s.context {
-        return refusal(3, state);
-    }
+    let entry = begin(image, state, board, context);
+    let Entry::Taken(s) = entry else {
+        return refusal(entry.number(), state);
+    };
     let i = board as u8;
     let engaged = state.engaged();
     if !has(engaged, i) {

@@ -1,202 +1,141 @@
 -- `acknowledge` meets its contract: its tests in their order, and then what an acknowledgement stores.
-use mathlib.Core.Path.{refl, sym, _∙_, ap}
+use mathlib.Core.Path.{_≡_, refl, sym, _∙_, ap}
 use native.Mathlib.Omega.{arith}
 use denote.Ref.{now}
+use lib.ListN.{length}
 use Rattle.boards.specs.Boards.{has}
-use Rattle.protocol.specs.Calls.{Acknowledge, record-refused, plan}
+use Rattle.protocol.specs.Calls.{Acknowledge, first, refusals, entry-tests, acknowledge-tests, record-refused, plan}
 use Rattle.boards.proofs.Basics.{not-true, not-false}
-use Rattle.entry.proofs.Laws.{entry-geometry, entry-small, ready}
-use Rattle.commit.proofs.Laws.{acknowledged-group, performed, refused-with, acknowledge-entry, acknowledge-long}
-use Rattle.commit.proofs.Laws.{acknowledge-other, acknowledge-again, acknowledge-passes}
+use Rattle.store.proofs.Ends.{turned}
+use Rattle.entry.specs.Tested.{entry-says}
+use Rattle.entry.proofs.Laws.{small, if-taken, call-refused-first}
+use Rattle.commit.specs.Begin.{begin-tests, Offered}
+use Rattle.commit.proofs.Laws.{acknowledged-group, performed, acknowledge-other, acknowledge-again}
+use Rattle.commit.proofs.Laws.{acknowledge-passes}
 use Rattle.commit.proofs.acknowledge.Statement.{statement}
 use Rattle.commit.proofs.acknowledge.Tie as tie
 
-entry-refusal-requires : tie.Need-entry-refusal-requires
-entry-refusal-requires c κs = tt
-
-refusal-requires : tie.Need-refusal-requires
-refusal-requires c κs = tt
-
-same-length : tie.Need-same-length
-same-length c = refl
-
 returns : tie.Need-returns
-unfolding record-refused
+unfolding refusals entry-tests acknowledge-tests record-refused
 returns c =
     let asked = c .before .before in
-    let args = asked .before .before .before .before .args in
-    refused-with (args .state) (Acknowledge (args .board) (now (args .context))) refl
-    (acknowledge-entry _ _ _ _ _ _ (asked .entry-refusal .ensures) (c .before .if1 .taken)) (c .before .if1 .taken) refl
-    (c .refusal .ensures)
+    let tested = asked .before .before in
+    let args = tested .before .before .before .before .args in
+    call-refused-first (args .state) (Acknowledge (args .board) (now (args .context))) (begin-tests _ _ _ _) _
+    (tested .begin .ensures) refl (ap entry-says (asked .enum-told .given .1)) (c .before .number .ensures)
+    (c .refusal .ensures) refl
 
-shape-of-requires : tie.Need-shape-of-requires
-shape-of-requires c κs =
-    let asked = c .before in
-    let args = asked .before .before .before .before .before .args in
-    let passed = sym (asked .if1 .left) ∙ asked .before .entry-refusal .ensures in
-    let g = entry-geometry (now (args .image)) (args .state) (args .board) passed in
-    (omega arith, g .power)
+-- what is known once the beginning is passed
+known : (c : tie.After-entry) →
+    let args = c .before .before .before .before .before .before .args in
+    let n = length (now (args .context)) in
+    (first (begin-tests (now (args .image)) (args .state) (args .board) n) ≡ 0)
+    × Offered (now (args .image)) (args .state) (args .board) n (c .entry .given .0 .0)
+known c = if-taken (c .before .before .begin .ensures) (c .entry .given .1)
 
-refusal-requires-2 : tie.Need-refusal-requires-2
-refusal-requires-2 c κs = tt
+cast-i : tie.Need-cast-i
+cast-i c = omega (arith, small (known (c .before) .1 .entry))
 
-same-length-2 : tie.Need-same-length-2
-same-length-2 c = refl
+has-requires : tie.Need-has-requires
+has-requires c κs = small (known (c .before .before) .1 .entry)
 
 returns-2 : tie.Need-returns-2
 unfolding record-refused
 returns-2 c =
-    let shaped = c .before .before .before in
-    let asked = shaped .before .before in
-    let args = asked .before .before .before .before .before .args in
-    let passed = sym (asked .if1 .left) ∙ asked .before .entry-refusal .ensures in
-    refused-with (args .state) (Acknowledge (args .board) (now (args .context))) (shaped .shape-of .ensures)
-    (acknowledge-long _ _ _ _ _ _ passed (c .before .if2 .taken)) (omega arith) refl (c .refusal2 .ensures)
+    let asked = c .before .before in
+    let opened = asked .before .before .before in
+    let tested = opened .before .before in
+    let args = tested .before .before .before .before .args in
+    let passed = known opened in
+    let member = asked .has .ensures ∙ ap (λ g. has g (args .board)) (asked .before .engaged .ensures) in
+    let other = acknowledge-other _ _ _ _ (passed .0) (sym member ∙ not-true _ (c .before .if1 .taken)) in
+    turned (args .state) (Acknowledge (args .board) (now (args .context))) other (λ z. omega arith) refl
+    (c .refusal2 .ensures)
 
-cast-i : tie.Need-cast-i
-cast-i c =
-    let asked = c .before .before .before .before in
-    let args = asked .before .before .before .before .before .args in
-    let passed = sym (asked .if1 .left) ∙ asked .before .entry-refusal .ensures in
-    omega (arith, entry-small (now (args .image)) (args .state) (args .board) passed)
-
-engaged-requires : tie.Need-engaged-requires
-engaged-requires c κs = tt
-
-has-requires : tie.Need-has-requires
-has-requires c κs =
-    let asked = c .before .before .before .before .before in
-    let args = asked .before .before .before .before .before .args in
-    let passed = sym (asked .if1 .left) ∙ asked .before .entry-refusal .ensures in
-    omega (arith, entry-small (now (args .image)) (args .state) (args .board) passed)
-
-refusal-requires-3 : tie.Need-refusal-requires-3
-refusal-requires-3 c κs = tt
-
-same-length-3 : tie.Need-same-length-3
-same-length-3 c = refl
+has-requires-2 : tie.Need-has-requires-2
+has-requires-2 c κs = small (known (c .before .before .before .before .before) .1 .entry)
 
 returns-3 : tie.Need-returns-3
 unfolding record-refused
 returns-3 c =
-    let tested = c .before .before in
-    let fitted = tested .before .before in
-    let shaped = fitted .before .before in
-    let asked = shaped .before .before in
-    let args = asked .before .before .before .before .before .args in
-    let passed = sym (asked .if1 .left) ∙ asked .before .entry-refusal .ensures in
-    let member = tested .has .ensures ∙ ap (λ g. has g (args .board)) (tested .before .engaged .ensures) in
-    refused-with (args .state) (Acknowledge (args .board) (now (args .context))) (shaped .shape-of .ensures)
-    (acknowledge-other _ _ _ _ _ _ passed (fitted .if2 .left) (sym member ∙ not-true _ (c .before .if3 .taken)))
-    (omega arith) refl (c .refusal3 .ensures)
-
-commit-of-requires : tie.Need-commit-of-requires
-commit-of-requires c κs = tt
-
-has-requires-2 : tie.Need-has-requires-2
-has-requires-2 c κs =
-    let asked = c .before .before .before .before .before .before .before .before in
-    let args = asked .before .before .before .before .before .args in
-    let passed = sym (asked .if1 .left) ∙ asked .before .entry-refusal .ensures in
-    omega (arith, entry-small (now (args .image)) (args .state) (args .board) passed)
-
-refusal-requires-4 : tie.Need-refusal-requires-4
-refusal-requires-4 c κs = tt
-
-same-length-4 : tie.Need-same-length-4
-same-length-4 c = refl
-
-returns-4 : tie.Need-returns-4
-unfolding record-refused
-returns-4 c =
     let again = c .before .before in
-    let tested = again .before .before .before in
-    let fitted = tested .before .before in
-    let shaped = fitted .before .before in
-    let asked = shaped .before .before in
-    let args = asked .before .before .before .before .before .args in
-    let passed = sym (asked .if1 .left) ∙ asked .before .entry-refusal .ensures in
-    let member = tested .has .ensures ∙ ap (λ g. has g (args .board)) (tested .before .engaged .ensures) in
+    let joined = again .before .before in
+    let asked = joined .before in
+    let opened = asked .before .before .before in
+    let tested = opened .before .before in
+    let args = tested .before .before .before .before .args in
+    let passed = known opened in
+    let member = asked .has .ensures ∙ ap (λ g. has g (args .board)) (asked .before .engaged .ensures) in
     let twice = again .has2 .ensures ∙ ap (λ o. has (o .acknowledged) (args .board))
     (again .before .commit-of .ensures) in
-    refused-with (args .state) (Acknowledge (args .board) (now (args .context))) (shaped .shape-of .ensures)
-    (acknowledge-again _ _ _ _ _ _ passed (fitted .if2 .left)
-    (sym member ∙ not-false _ (again .before .before .if3 .left)) (sym twice ∙ c .before .if4 .taken))
-    (omega arith) refl (c .refusal4 .ensures)
+    let number = acknowledge-again _ _ _ _ (passed .0) (sym member ∙ not-false _ (joined .if1 .left))
+    (sym twice ∙ c .before .if2 .taken) in
+    turned (args .state) (Acknowledge (args .board) (now (args .context))) number (λ z. omega arith) refl
+    (c .refusal3 .ensures)
 
 acknowledge-requires : tie.Need-acknowledge-requires
-acknowledge-requires c κs =
-    let asked = c .before .before .before .before .before .before .before .before .before .before in
-    let args = asked .before .before .before .before .before .args in
-    let passed = sym (asked .if1 .left) ∙ asked .before .entry-refusal .ensures in
-    omega (arith, entry-small (now (args .image)) (args .state) (args .board) passed)
-
-without-requires : tie.Need-without-requires
-without-requires c κs = tt
+acknowledge-requires c κs = small (known (c .before .before .before .before .before .before .before) .1 .entry)
 
 give-requires : tie.Need-give-requires
 give-requires c κs =
     let noted = c .before .before .before in
     let again = noted .before .before in
-    let fitted = again .before .before .before .before .before in
-    let shaped = fitted .before .before in
-    let asked = shaped .before .before in
-    let args = asked .before .before .before .before .before .args in
-    let passed = sym (asked .if1 .left) ∙ asked .before .entry-refusal .ensures in
-    let all = ready (now (args .image)) (args .state) (args .board) passed (shaped .shape-of .ensures) in
+    let opened = again .before .before .before .before .before .before in
+    let tested = opened .before .before in
+    let args = tested .before .before .before .before .args in
+    let offered = known opened .1 in
+    let entry = offered .entry in
     let group = acknowledged-group (args .state) (args .board) (noted .acknowledge .ensures)
-    (again .before .commit-of .ensures)
-    (c .before .without .ensures) in
-    (all .0, all .1, all .2, fitted .if2 .left, group)
+    (again .before .commit-of .ensures) (c .before .without .ensures) in
+    (entry .shaped .allowed-shape, entry .shaped .long, entry .board, offered .full, group)
 
-same-length-5 : tie.Need-same-length-5
-same-length-5 c = c .before .image .given
+same-length-4 : tie.Need-same-length-4
+same-length-4 c = c .before .image .given
 
-returns-5 : tie.Need-returns-5
+returns-4 : tie.Need-returns-4
 unfolding plan
-returns-5 c =
+returns-4 c =
     let gave = c .before .before in
     let noted = gave .before .before .before .before in
     let again = noted .before .before in
-    let tested = again .before .before .before in
-    let fitted = tested .before .before in
-    let shaped = fitted .before .before in
-    let asked = shaped .before .before in
-    let args = asked .before .before .before .before .before .args in
-    let passed = sym (asked .if1 .left) ∙ asked .before .entry-refusal .ensures in
-    let member = tested .has .ensures ∙ ap (λ g. has g (args .board)) (tested .before .engaged .ensures) in
+    let joined = again .before .before in
+    let asked = joined .before in
+    let opened = asked .before .before .before in
+    let tested = opened .before .before in
+    let args = tested .before .before .before .before .args in
+    let passed = known opened in
+    let member = asked .has .ensures ∙ ap (λ g. has g (args .board)) (asked .before .engaged .ensures) in
     let twice = again .has2 .ensures ∙ ap (λ o. has (o .acknowledged) (args .board))
     (again .before .commit-of .ensures) in
-    performed (args .state) (Acknowledge (args .board) (now (args .context))) (shaped .shape-of .ensures)
-    (acknowledge-passes _ _ _ _ _ _ passed (fitted .if2 .left)
-    (sym member ∙ not-false _ (again .before .before .if3 .left)) (sym twice ∙ noted .before .if4 .left))
+    let number = acknowledge-passes _ _ _ _ (passed .0) (sym member ∙ not-false _ (joined .if1 .left))
+    (sym twice ∙ noted .before .if2 .left) in
+    performed (args .state) (Acknowledge (args .board) (now (args .context))) (passed .1 .entry .shaped .shape) number
     (gave .give .ensures _ (noted .acknowledge .ensures))
 
 pub acknowledge-spec : {M : Type 1} → statement M
 acknowledge-spec =
     tie.close
     (tie.spec
-    entry-refusal-requires
-    refusal-requires
-    same-length
+    (λ c κs. tt)
+    (λ c. omega arith)
+    (λ c. omega arith)
+    (λ c κs. tt)
+    (λ c κs. tt)
+    (λ c. refl)
     returns
-    shape-of-requires
-    refusal-requires-2
-    same-length-2
-    returns-2
     cast-i
-    engaged-requires
+    (λ c κs. tt)
     has-requires
-    refusal-requires-3
-    same-length-3
-    returns-3
-    commit-of-requires
+    (λ c κs. tt)
+    (λ c. refl)
+    returns-2
+    (λ c κs. tt)
     has-requires-2
-    refusal-requires-4
-    same-length-4
-    returns-4
+    (λ c κs. tt)
+    (λ c. refl)
+    returns-3
     acknowledge-requires
-    without-requires
+    (λ c κs. tt)
     give-requires
-    same-length-5
-    returns-5)
+    same-length-4
+    returns-4)

@@ -1,150 +1,106 @@
 -- `start` meets its contract: its tests in their order, and then the acknowledgement of its own opened commit.
-use mathlib.Core.Path.{refl, sym, _∙_}
+use mathlib.Core.Path.{_≡_, refl, ap}
 use native.Mathlib.Omega.{arith}
 use denote.Ref.{now}
-use Rattle.protocol.specs.Calls.{Start, record-refused, plan}
-use Rattle.entry.proofs.Laws.{entry-geometry, entry-small, ready}
-use Rattle.commit.proofs.Laws.{started, started-group, performed, refused-with, start-entry, start-long}
-use Rattle.commit.proofs.Laws.{start-open, start-passes}
+use lib.ListN.{length}
+use Rattle.protocol.specs.Calls.{Start, first, refusals, entry-tests, start-tests, record-refused, plan}
+use Rattle.store.proofs.Ends.{turned}
+use Rattle.entry.specs.Tested.{entry-says}
+use Rattle.entry.proofs.Laws.{small, if-taken, call-refused-first}
+use Rattle.commit.specs.Begin.{begin-tests, Offered}
+use Rattle.commit.proofs.Laws.{started, started-group, performed, start-open, start-passes}
 use Rattle.commit.proofs.start.Statement.{statement}
 use Rattle.commit.proofs.start.Tie as tie
 
-entry-refusal-requires : tie.Need-entry-refusal-requires
-entry-refusal-requires c κs = tt
-
-refusal-requires : tie.Need-refusal-requires
-refusal-requires c κs = tt
-
-same-length : tie.Need-same-length
-same-length c = refl
-
 returns : tie.Need-returns
-unfolding record-refused
+unfolding refusals entry-tests start-tests record-refused
 returns c =
     let asked = c .before .before in
-    let args = asked .before .before .before .before .args in
-    refused-with (args .state) (Start (args .board) (now (args .context))) refl
-    (start-entry _ _ _ _ _ _ (asked .entry-refusal .ensures) (c .before .if1 .taken)) (c .before .if1 .taken) refl
-    (c .refusal .ensures)
+    let tested = asked .before .before in
+    let args = tested .before .before .before .before .args in
+    call-refused-first (args .state) (Start (args .board) (now (args .context))) (begin-tests _ _ _ _) _
+    (tested .begin .ensures) refl (ap entry-says (asked .enum-told .given .1)) (c .before .number .ensures)
+    (c .refusal .ensures) refl
 
-shape-of-requires : tie.Need-shape-of-requires
-shape-of-requires c κs =
-    let asked = c .before in
-    let args = asked .before .before .before .before .before .args in
-    let passed = sym (asked .if1 .left) ∙ asked .before .entry-refusal .ensures in
-    let g = entry-geometry (now (args .image)) (args .state) (args .board) passed in
-    (omega arith, g .power)
-
-refusal-requires-2 : tie.Need-refusal-requires-2
-refusal-requires-2 c κs = tt
-
-same-length-2 : tie.Need-same-length-2
-same-length-2 c = refl
+-- what is known once the beginning is passed
+known : (c : tie.After-entry) →
+    let args = c .before .before .before .before .before .before .args in
+    let n = length (now (args .context)) in
+    (first (begin-tests (now (args .image)) (args .state) (args .board) n) ≡ 0)
+    × Offered (now (args .image)) (args .state) (args .board) n (c .entry .given .0 .0)
+known c = if-taken (c .before .before .begin .ensures) (c .entry .given .1)
 
 returns-2 : tie.Need-returns-2
 unfolding record-refused
 returns-2 c =
-    let shaped = c .before .before .before in
-    let asked = shaped .before .before in
-    let args = asked .before .before .before .before .before .args in
-    let passed = sym (asked .if1 .left) ∙ asked .before .entry-refusal .ensures in
-    refused-with (args .state) (Start (args .board) (now (args .context))) (shaped .shape-of .ensures)
-    (start-long _ _ _ _ _ _ passed (c .before .if2 .taken)) (omega arith) refl (c .refusal2 .ensures)
-
-engaged-requires : tie.Need-engaged-requires
-engaged-requires c κs = tt
-
-refusal-requires-3 : tie.Need-refusal-requires-3
-refusal-requires-3 c κs = tt
-
-same-length-3 : tie.Need-same-length-3
-same-length-3 c = refl
-
-returns-3 : tie.Need-returns-3
-unfolding record-refused
-returns-3 c =
-    let fitted = c .before .before .before in
-    let shaped = fitted .before .before in
-    let asked = shaped .before .before in
-    let args = asked .before .before .before .before .before .args in
-    let passed = sym (asked .if1 .left) ∙ asked .before .entry-refusal .ensures in
-    refused-with (args .state) (Start (args .board) (now (args .context))) (shaped .shape-of .ensures)
-    (start-open _ _ _ _ _ _ passed (fitted .if2 .left)
-    (λ z. c .before .if3 .taken (c .before .before .engaged .ensures ∙ z))) (omega arith) refl (c .refusal3 .ensures)
+    let asked = c .before .before in
+    let opened = asked .before .before in
+    let tested = opened .before .before in
+    let args = tested .before .before .before .before .args in
+    let passed = known opened in
+    let number = start-open _ _ _ _ (passed .0)
+    (λ z. omega (arith, c .before .if1 .taken, asked .engaged .ensures, z)) in
+    turned (args .state) (Start (args .board) (now (args .context))) number (λ z. omega arith) refl
+    (c .refusal2 .ensures)
 
 cast-i : tie.Need-cast-i
-cast-i c =
-    let asked = c .before .before .before .before .before .before in
-    let args = asked .before .before .before .before .before .args in
-    let passed = sym (asked .if1 .left) ∙ asked .before .entry-refusal .ensures in
-    omega (arith, entry-small (now (args .image)) (args .state) (args .board) passed)
+cast-i c = omega (arith, small (known (c .before .before .before) .1 .entry))
 
 commit-closure-requires : tie.Need-commit-closure-requires
-commit-closure-requires c κs =
-    let asked = c .before .before .before .before .before .before .before in
-    let args = asked .before .before .before .before .before .args in
-    let passed = sym (asked .if1 .left) ∙ asked .before .entry-refusal .ensures in
-    omega (arith, entry-small (now (args .image)) (args .state) (args .board) passed)
+commit-closure-requires c κs = small (known (c .before .before .before .before) .1 .entry)
 
 start-requires : tie.Need-start-requires
-start-requires c κs =
-    let asked = c .before .before .before .before .before .before .before .before in
-    let args = asked .before .before .before .before .before .args in
-    let passed = sym (asked .if1 .left) ∙ asked .before .entry-refusal .ensures in
-    omega (arith, entry-small (now (args .image)) (args .state) (args .board) passed)
+start-requires c κs = small (known (c .before .before .before .before .before) .1 .entry)
 
 give-requires : tie.Need-give-requires
 give-requires c κs =
-    let fitted = c .before .before .before .before .before .before in
-    let shaped = fitted .before .before in
-    let asked = shaped .before .before in
-    let args = asked .before .before .before .before .before .args in
-    let passed = sym (asked .if1 .left) ∙ asked .before .entry-refusal .ensures in
-    let all = ready (now (args .image)) (args .state) (args .board) passed (shaped .shape-of .ensures) in
-    let opened = c .before in
-    let group = started-group (args .state) (args .board) (opened .start .ensures)
-    (opened .before .commit-closure .ensures) in
-    (all .0, all .1, all .2, fitted .if2 .left, group)
+    let started = c .before in
+    let opened = started .before .before .before .before .before .before in
+    let tested = opened .before .before in
+    let args = tested .before .before .before .before .args in
+    let offered = known opened .1 in
+    let entry = offered .entry in
+    let group = started-group (args .state) (args .board) (started .start .ensures)
+    (started .before .commit-closure .ensures) in
+    (entry .shaped .allowed-shape, entry .shaped .long, entry .board, offered .full, group)
 
-same-length-4 : tie.Need-same-length-4
-same-length-4 c = c .before .image .given
+same-length-3 : tie.Need-same-length-3
+same-length-3 c = c .before .image .given
 
-returns-4 : tie.Need-returns-4
+returns-3 : tie.Need-returns-3
 unfolding plan
-returns-4 c =
+returns-3 c =
     let gave = c .before .before in
-    let opened = gave .before .before in
-    let grouped = opened .before in
+    let opened-commit = gave .before .before in
+    let grouped = opened-commit .before in
     let free = grouped .before .before in
-    let fitted = free .before .before in
-    let shaped = fitted .before .before in
-    let asked = shaped .before .before in
-    let args = asked .before .before .before .before .before .args in
-    let passed = sym (asked .if1 .left) ∙ asked .before .entry-refusal .ensures in
-    performed (args .state) (Start (args .board) (now (args .context))) (shaped .shape-of .ensures)
-    (start-passes _ _ _ _ _ _ passed (fitted .if2 .left) (sym (free .before .engaged .ensures) ∙ free .if3 .left))
+    let opened = free .before .before .before in
+    let tested = opened .before .before in
+    let args = tested .before .before .before .before .args in
+    let passed = known opened in
+    performed (args .state) (Start (args .board) (now (args .context))) (passed .1 .entry .shaped .shape)
+    (start-passes _ _ _ _ (passed .0) (omega (arith, free .before .engaged .ensures, free .if1 .left)))
     (gave .give .ensures _
-    (started (args .state) (args .board) (opened .start .ensures) (grouped .commit-closure .ensures .members)))
+    (started (args .state) (args .board) (opened-commit .start .ensures) (grouped .commit-closure .ensures .members)))
 
 pub start-spec : {M : Type 1} → statement M
 start-spec =
     tie.close
     (tie.spec
-    entry-refusal-requires
-    refusal-requires
-    same-length
+    (λ c κs. tt)
+    (λ c. omega arith)
+    (λ c. omega arith)
+    (λ c κs. tt)
+    (λ c κs. tt)
+    (λ c. refl)
     returns
-    shape-of-requires
-    refusal-requires-2
-    same-length-2
+    (λ c κs. tt)
+    (λ c κs. tt)
+    (λ c. refl)
     returns-2
-    engaged-requires
-    refusal-requires-3
-    same-length-3
-    returns-3
     cast-i
     commit-closure-requires
     start-requires
     give-requires
-    same-length-4
-    returns-4)
+    same-length-3
+    returns-3)
