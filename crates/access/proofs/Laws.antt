@@ -1,5 +1,5 @@
 -- Links by tags, and a buffer filled byte by byte.
-use Prim.Native.Nat.{ℕ, zero, suc, _+_, _-_, _≤_, _<_}
+use Prim.Native.Nat.{ℕ, suc, _+_, _≤_, _<_}
 use mathlib.Core.Path.{_≡_, refl, sym, _∙_}
 use mathlib.Core.List.{List}
 use lib.ListN.{length, getD, drop, set, length-append, length-drop}
@@ -8,31 +8,28 @@ use native.Mathlib.Omega.{arith}
 use native.Mathlib.Numerals.{add-one}
 use borrow.Author.Tests.{eq-eqb, ne-eqb}
 use Rattle.boards.specs.Lists.{span}
-use Rattle.protocol.specs.Accesses.{Binding, bind-tag, bind-boards}
+use Rattle.protocol.specs.Accesses.{bind-tag, bind-boards}
+use Rattle.protocol.specs.declared.Binding.{Binding}
 use Rattle.volatile.specs.Volatile.{depend}
 use Rattle.volatile.specs.declared.Record.{Record}
-use Rattle.boards.proofs.Basics.{length-span}
-use Rattle.store.proofs.Runs.{span-more}
-use Rattle.access.specs.Filled.{filled-from}
+use Rattle.boards.proofs.Basics.{length-span, span-more}
+use Rattle.access.specs.Leaves.{filled-from}
 
 -- ---- tags
 
-module _ (how : Binding) (r : Record) (i : ℕ) where
-  pub bind-none : (t : ℕ) → t ≡ 0 → r ≡ bind-tag depend how r i t
+module _ (how : Binding) (r : Record) (i : ℕ) {t : ℕ} where
+  pub bind-none : t ≡ 0 → r ≡ bind-tag depend how r i t
   unfolding bind-tag
-  bind-none t e = rw e
+  bind-none e = rw e
 
-  pub bind-own : (t : ℕ) → 0 < t → i ≡ t - 1 → r ≡ bind-tag depend how r i t
-  unfolding bind-tag
-  bind-own zero l e = absurd (omega arith)
-  bind-own (suc j) l e = rw (eq-eqb i j (omega arith))
+  module _ (j : ℕ) (e : t ≡ suc j) where
+    pub bind-own : i ≡ j → r ≡ bind-tag depend how r i t
+    unfolding bind-tag
+    bind-own f = rw (e, eq-eqb i j f)
 
-  pub bind-other : (t : ℕ) → 0 < t → (i ≡ t - 1 → ⊥) → bind-boards depend how r i (t - 1) ≡ bind-tag depend how r i t
-  unfolding bind-tag
-  bind-other zero l e = absurd (omega arith)
-  bind-other (suc j) l e =
-      let same : suc j - 1 ≡ j = omega arith in
-      rw (ne-eqb i j (λ q. e (omega arith)), same)
+    pub bind-other : (i ≡ j → ⊥) → bind-boards depend how r i j ≡ bind-tag depend how r i t
+    unfolding bind-tag
+    bind-other f = rw (e, ne-eqb i j f)
 
 -- ---- the buffer
 

@@ -1,11 +1,13 @@
 // Reads and writes.
-use admission::block_tag;
-use admission::read_refusal;
-use admission::write_refusal;
-use layout::current_at;
-use layout::shape_of;
+use admission::Admission;
+use admission::Place;
+use admission::admit;
+use admission::admit_write;
+use boards::Writer;
+use boards::sets::writer_of;
+use layout::TAGS;
+use protocol::Binding;
 use protocol::Reply;
-use protocol::Shape;
 use store::Budget;
 use store::answers::finish;
 use store::answers::refusal;
@@ -13,47 +15,33 @@ use store::put_all;
 use store::store;
 use volatile::Record;
 ghost use mathlib.Core.Path.{_≡_};
-ghost use mathlib.Core.Bool.{true};
-ghost use mathlib.Core.List.{[], _∷_, _++_};
-ghost use Prim.Native.Nat.{_+_, _*_, _/_, _≤_, _<_};
+ghost use mathlib.Core.List.{_++_};
+ghost use Prim.Native.Nat.{_+_, _≤_, _<_};
 ghost use lib.ListN.{length};
-ghost use Rattle.protocol.specs.Image.{Current, allowed, total, view};
 ghost use Rattle.volatile.specs.Volatile.{depend};
-ghost use Rattle.protocol.specs.Accesses.{one-way, two-way, bind-tag};
-ghost use Rattle.protocol.specs.Calls.{Read, Write, tagging, placing};
-ghost use Rattle.store.specs.Puts.{Puts};
+ghost use Rattle.protocol.specs.Accesses.{bind-tag};
+ghost use Rattle.protocol.specs.Calls.{Read, Write};
+ghost use Rattle.store.specs.Budget.{Makes};
+ghost use Rattle.store.specs.Runs.{put-stores};
 ghost use Rattle.store.specs.Promise.{Performed, Answered};
-ghost use Rattle.access.specs.Filled.{filled-from};
+ghost use Rattle.access.specs.Leaves.{filled-from, tag-store};
 
-// A read of a block with this tag: the board comes to depend on the writer, if that is another board.
-fn bind_read(state: Record, i: u8, tag: u8) -> Record
+// An access of a block with this tag binds the board to the writer, if that is another board.
+fn bind(state: Record, how: Binding, i: u8, tag: u8) -> Record
     requires { ⌜ (i < 16) × (tag ≤ 16) ⌝ }
-    ensures { λ r. ⌜ r ≡ bind-tag depend one-way state i tag ⌝ }
+    ensures { λ r. ⌜ r ≡ bind-tag depend how state i tag ⌝ }
 {
-    if tag == 0 {
+    let Writer::Board(j) = writer_of(tag) else {
         return state;
-    }
-    let j = tag - 1;
-    if i == j {
-        return state;
-    }
-    state.depend(i, j)
-}
-
-// A write: the two come to depend on each other.
-fn bind_write(state: Record, i: u8, tag: u8) -> Record
-    requires { ⌜ (i < 16) × (tag ≤ 16) ⌝ }
-    ensures { λ r. ⌜ r ≡ bind-tag depend two-way state i tag ⌝ }
-{
-    if tag == 0 {
-        return state;
-    }
-    let j = tag - 1;
+    };
     if i == j {
         return state;
     }
     let once = state.depend(i, j);
-    once.depend(j, i)
+    match how {
+        Binding::OneWay => once,
+        Binding::TwoWay => once.depend(j, i),
+    }
 }
 
 // The first n bytes of the buffer become those of the image from `at` on.
@@ -79,47 +67,36 @@ pub fn read(
     ensures { λ r. ⌜ Answered (Read board cell n (length (now (buffer .entry)))) (now (image .entry)) state
         (now (buffer .entry)) r (now (buffer .exit)) ⌝ }
 {
-    let number = read_refusal(image, state, board, cell, n, buffer.len());
-    if number != 0 {
-        return refusal(number, state);
-    }
-    let s = shape_of(image);
-    let tag = block_tag(image, s, cell);
-    let next = bind_read(state, board as u8, tag);
-    let from = current_at(s) + cell;
-    fill(image, from, n, buffer);
-    let none = Budget {
-        left: 0,
-        cut: false,
+    let admission = admit(image, state, board, cell, n, buffer.len());
+    let Admission::Taken(p) = admission else {
+        return refusal(admission.number(), state);
     };
+    let next = bind(state, Binding::OneWay, board as u8, p.tag);
+    fill(image, p.at, n, buffer);
+    let none = Budget::new(0);
     finish(0, none, false, 0, next)
 }
 
-// The tag of the block at a cell, if it is not the writer's.
-fn put_tag(image: &mut [u8], s: Shape, cell: usize, i: u8, k: Budget) -> Budget
-    requires { ⌜ (allowed s ≡ true) × (length (now image) ≡ total s) × (cell < s .blocks * s .size) × (i < 16) ⌝ }
-    ensures { λ r. ⌜ Puts s (tagging (view s (now (image .entry))) i (cell / s .size ∷ [])) k
-        (now (image .entry)) r (now (image .exit)) ⌝ }
+// The tag of the block, if it is not the writer's.
+fn put_tag(image: &mut [u8], p: Place, i: u8, k: Budget) -> Budget
+    requires { ⌜ (12 + p .block < length (now image)) × (i < 16) ⌝ }
+    ensures { λ r. ⌜ Makes (tag-store p i) k (now (image .entry)) r (now (image .exit)) ⌝ }
 {
-    let tag = block_tag(image, s, cell);
     let own = i + 1;
-    if tag == own {
+    if p.tag == own {
         return k;
     }
-    let b = cell / s.size;
-    store(image, 12 + b, own, k)
+    store(image, TAGS + p.block, own, k)
 }
 
 // The tag, then the bytes, ascending.
-fn put_bytes(image: &mut [u8], s: Shape, cell: usize, i: u8, bytes: &[u8], k: Budget) -> Budget
-    requires { ⌜ (allowed s ≡ true) × (length (now image) ≡ total s) × (cell < s .blocks * s .size) × (i < 16) ⌝ }
-    requires { ⌜ cell + length (now bytes) ≤ s .blocks * s .size ⌝ }
-    ensures { λ r. ⌜ Puts s (tagging (view s (now (image .entry))) i (cell / s .size ∷ [])
-        ++ placing Current cell (now (bytes .entry))) k (now (image .entry)) r (now (image .exit)) ⌝ }
+fn put_bytes(image: &mut [u8], p: Place, i: u8, bytes: &[u8], k: Budget) -> Budget
+    requires { ⌜ (12 + p .block < length (now image)) × (p .at + length (now bytes) ≤ length (now image)) × (i < 16) ⌝ }
+    ensures { λ r. ⌜ Makes (tag-store p i ++ put-stores (p .at) (now (bytes .entry))) k
+        (now (image .entry)) r (now (image .exit)) ⌝ }
 {
-    let at = current_at(s) + cell;
-    let tagged = put_tag(image, s, cell, i, k);
-    put_all(image, at, bytes, tagged)
+    let tagged = put_tag(image, p, i, k);
+    put_all(image, p.at, bytes, tagged)
 }
 
 // The bytes become the current bytes from the cell on; the board and the block's writer come to depend on each other.
@@ -134,18 +111,13 @@ pub fn write(
     ensures { λ r. ⌜ Performed (Write board cell (now (bytes .entry))) k (now (image .entry)) state
         r (now (image .exit)) ⌝ }
 {
-    let number = write_refusal(image, state, board, cell, bytes);
-    if number != 0 {
-        return refusal(number, state);
-    }
-    let s = shape_of(image);
-    let i = board as u8;
-    let tag = block_tag(image, s, cell);
-    let next = bind_write(state, i, tag);
-    let all = Budget {
-        left: k,
-        cut: false,
+    let admission = admit_write(image, state, board, cell, bytes);
+    let Admission::Taken(p) = admission else {
+        return refusal(admission.number(), state);
     };
-    let left = put_bytes(image, s, cell, i, bytes, all);
+    let i = board as u8;
+    let next = bind(state, Binding::TwoWay, i, p.tag);
+    let whole = Budget::new(k);
+    let left = put_bytes(image, p, i, bytes, whole);
     finish(k, left, false, 0, next)
 }

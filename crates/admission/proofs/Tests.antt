@@ -1,152 +1,140 @@
--- The tests of a read and of a write in their order, and what a call that passed them knows.
+-- The tests of a read and of a write in their order, and what an access that passed them knows.
 use Prim.Native.Nat.{ℕ, _+_, _/_, _≤_, _<_}
-use mathlib.Core.Path.{_≡_, refl, sym, _∙_, subst}
-use mathlib.Core.Bool.{Bool, true, false, _||_}
+use mathlib.Core.Path.{_≡_, refl, sym, _∙_, ap, subst}
+use mathlib.Core.Bool.{Bool, true, false, _||_, cond}
 use mathlib.Core.List.{List, [], _∷_, _++_}
 use lib.Dec.{ltb}
 use lib.ListN.{length}
 use native.Mathlib.Omega.{arith}
-use borrow.Author.Tests.{lt-ltb, le-ltb, ltb-false}
+use borrow.Author.Tests.{lt-ltb, le-ltb}
 use Rattle.boards.specs.Lists.{anyOf}
 use Rattle.boards.specs.Boards.{has, tagged-in}
-use Rattle.boards.proofs.Basics.{true-or, or-right, false-or}
-use Rattle.protocol.specs.Image.{Memory, allowed, cells, shape-of, view}
+use Rattle.protocol.specs.Image.{Tags, allowed, cells, shape-of, view}
 use Rattle.volatile.specs.Volatile.{engaged}
-use Rattle.protocol.specs.Calls.{Request, Read, Write, test, first, refusals, refusal-at, bad-range, tags-of}
+use Rattle.protocol.specs.Calls.{Read, Write, Test, test, first, refusals, refusal-at, bad-range, tags-of}
 use Rattle.protocol.specs.Calls.{entry-tests, read-tests, write-tests}
 use Rattle.protocol.specs.declared.Shape.{Shape}
 use Rattle.volatile.specs.declared.Record.{Record}
-use Rattle.protocol.proofs.Refusals.{Entered, entered, read-passed, write-passed, entry-first, first-held, first-passed}
-use Rattle.protocol.proofs.Plans.{Ranged, ranged}
+use Rattle.protocol.proofs.Refusals.{entry-goes-on, first-goes-on, first-held, first-passed}
 use Rattle.protocol.proofs.Safety.{block-below}
-use Rattle.layout.proofs.Laws.{Geometry, geometry, bounded}
-use Rattle.admission.specs.Tags.{tag-at}
+use Rattle.layout.proofs.Laws.{bounded}
+use Rattle.entry.specs.Tested.{Tested, Entry-passed}
+use Rattle.entry.proofs.Laws.{if-passed}
+use Rattle.admission.specs.declared.Place.{Place}
+use Rattle.admission.specs.Places.{place-at, admission-says, Placed}
+use Rattle.admission.specs.declared.Admission.{Admission}
+use Rattle.admission.specs.declared.Admission.the-variants.{Taken}
 use Rattle.admission.proofs.Touched.{any-one}
 
 -- the block of a cell
 pub block-of : (s : Shape) (a : ℕ) → allowed s ≡ true → a < cells s → a / s .size < s .blocks
 block-of s a h l = let b = bounded h in block-below s a (omega arith) l
 
--- ---- the tests of a read
+-- an access that is taken
+pub placed : {image : List ℕ} {r : Record} {i n room : ℕ} {s : Shape} {p : Place} (a : ℕ) → p ≡ place-at s image a
+    → Entry-passed image r i s → bad-range s a n ≡ false → n ≤ room → p .tag ≤ s .boards → Placed image r i a n room p
+placed {image} {r} {i} {n} {room} {p = p} a e entry ok fits l =
+    subst
+    (λ s. p ≡ place-at s image a → Entry-passed image r i s → bad-range s a n ≡ false → p .tag ≤ s .boards
+    → Placed image r i a n room p)
+    (entry .shaped .shape)
+    (λ e entry ok l.
+    record {
+      entry = entry;
+      range = ok;
+      fits = fits;
+      begins = ap (λ (p : Place). p .at) e;
+      block = ap (λ (p : Place). p .block) e;
+      tag = ap (λ (p : Place). p .tag) e;
+      tag-known = l;
+    })
+    e entry ok l
 
-module _ (s : Shape) (m : Memory) (r : Record) (i a n room : ℕ) where
-  pub read-two : true ≡ bad-range s a n → 2 ≡ first (read-tests s m r i a n room)
-  unfolding read-tests first
-  read-two e = rw (← e)
+-- tests that answered Taken
+pub if-admitted : {n : ℕ} {Known : Place → Type 0} {e : Admission} {p : Place} → Tested n Known (admission-says e)
+    → e ≡ Taken p → (n ≡ 0) × Known p
+if-admitted t q = if-passed t (ap admission-says q)
 
-  module _ (ok : false ≡ bad-range s a n) where
-    pub read-five : room < n → 5 ≡ first (read-tests s m r i a n room)
+-- ---- the tests of a read, once the first tests are passed
+
+module _ {image : List ℕ} {r : Record} {i : ℕ} {s : Shape} (a n room : ℕ)
+    (known : (first (entry-tests image r i) ≡ 0) × Entry-passed image r i s)
+  where
+    own : refusal-at image r (Read i a n room) ≡ first (read-tests s (view s image) r i a n room)
+    unfolding refusals
+    own =
+        entry-goes-on image r i _ (known .0)
+        ∙ ap (λ t. first (read-tests t (view t image) r i a n room)) (known .1 .shaped .shape)
+
+    pub read-two : bad-range s a n ≡ true → refusal-at image r (Read i a n room) ≡ 2
     unfolding read-tests first
-    read-five l = rw (← ok, lt-ltb room n l)
+    read-two h = own ∙ rw h
 
-    module _ (fits : n ≤ room) where
-      pub read-eleven : s .boards < tag-at s m a → 11 ≡ first (read-tests s m r i a n room)
+    module _ (ok : bad-range s a n ≡ false) where
+      pub read-five : room < n → refusal-at image r (Read i a n room) ≡ 5
       unfolding read-tests first
-      read-eleven l =
-          rw (any-one s m a n (sym ok) (ltb (s .boards)), ← ok, le-ltb room n fits, lt-ltb (s .boards) (tag-at s m a) l)
+      read-five l = own ∙ rw (ok, lt-ltb room n l)
 
-      pub read-last : tag-at s m a ≤ s .boards
-          → first (test (has (engaged r) i) 13 ∷ []) ≡ first (read-tests s m r i a n room)
-      unfolding read-tests first
-      read-last l =
-          rw (any-one s m a n (sym ok) (ltb (s .boards)), ← ok, le-ltb room n fits, le-ltb (s .boards) (tag-at s m a) l)
+      module _ (fits : n ≤ room) {p : Place} (at : p ≡ place-at s image a) where
+        abbrev tag-read : view s image Tags (a / s .size) ≡ p .tag
+        tag-read = sym (ap (λ (p : Place). p .tag) at)
 
--- ---- the tests of a write
+        pub read-eleven : s .boards < p .tag → refusal-at image r (Read i a n room) ≡ 11
+        unfolding read-tests first
+        read-eleven l =
+            own
+            ∙ rw (
+              any-one s (view s image) a n ok (ltb (s .boards)),
+              ok,
+              le-ltb room n fits,
+              tag-read,
+              lt-ltb (s .boards) (p .tag) l,
+            )
 
-module _ (s : Shape) (m : Memory) (r : Record) (i a n : ℕ) where
-  pub write-two : true ≡ bad-range s a n → 2 ≡ first (write-tests s m r i a n)
-  unfolding write-tests first
-  write-two e = rw (← e)
+        module _ (fine : p .tag ≤ s .boards) where
+          last : refusal-at image r (Read i a n room) ≡ first (test (has (engaged r) i) 13 ∷ [])
+          unfolding read-tests first
+          last =
+              own
+              ∙ rw (
+                any-one s (view s image) a n ok (ltb (s .boards)),
+                ok,
+                le-ltb room n fits,
+                tag-read,
+                le-ltb (s .boards) (p .tag) fine,
+              )
 
-  module _ (ok : false ≡ bad-range s a n) {tag : ℕ} (read : tag ≡ tag-at s m a) where
-    pub write-eleven : s .boards < tag → 11 ≡ first (write-tests s m r i a n)
-    unfolding write-tests first
-    write-eleven l = rw (any-one s m a n (sym ok) (ltb (s .boards)), ← ok, ← read, lt-ltb (s .boards) tag l)
+          pub read-member : has (engaged r) i ≡ true → refusal-at image r (Read i a n room) ≡ 13
+          read-member h = last ∙ first-held 13 [] h
 
-    module _ (fine : tag ≤ s .boards) {mine theirs : Bool} (m₁ : mine ≡ has (engaged r) i)
-        (m₂ : theirs ≡ tagged-in (engaged r) tag)
-      where
-        write-last : first (test (mine || theirs) 13 ∷ []) ≡ first (write-tests s m r i a n)
-        unfolding write-tests first
-        write-last = rw (
-          any-one s m a n (sym ok) (ltb (s .boards)),
-          any-one s m a n (sym ok) (tagged-in (engaged r)),
-          ← ok,
-          ← read,
-          le-ltb (s .boards) tag fine,
-          m₁,
-          m₂,
-        )
+          pub read-passes : has (engaged r) i ≡ false → refusal-at image r (Read i a n room) ≡ 0
+          unfolding first
+          read-passes h = last ∙ first-passed 13 [] h
 
-        pub write-member : mine ≡ true → 13 ≡ first (write-tests s m r i a n)
-        write-member e = sym (first-held 13 [] (true-or theirs e)) ∙ write-last
+-- ---- a write tests what a read with room enough tests, and then the tag
 
-        pub write-tagged : theirs ≡ true → 13 ≡ first (write-tests s m r i a n)
-        write-tagged e = sym (first-held 13 [] (or-right mine e)) ∙ write-last
+both : (b c : Bool) → _≡_ {A = ℕ} (cond (b || c) 13 0) (cond b 13 (cond c 13 0))
+both true c = refl
+both false c = refl
 
-        pub write-none : mine ≡ false → theirs ≡ false → 0 ≡ first (write-tests s m r i a n)
-        unfolding first
-        write-none e f = sym (first-passed 13 [] (false-or e f)) ∙ write-last
+module _ (image : List ℕ) (r : Record) (i a : ℕ) (bytes : List ℕ) where
+  abbrev pub as-read : List Test
+  as-read = refusals image (shape-of image) (view (shape-of image) image) r (Read i a (length bytes) (length bytes))
 
--- ---- a call that passed
+  abbrev tagged-test : Test
+  tagged-test = let s = shape-of image in
+      test (anyOf (tagged-in (engaged r)) (tags-of s (view s image) a (length bytes))) 13
 
--- what an access of n cells from a on by board i knows of the image
-pub record Admitted (s : Shape) (image : List ℕ) (i a n : ℕ) : Type 0 where
-  pub shape : shape-of image ≡ s
-  pub geometry : Geometry 0 s image
-  pub board : i < s .boards
-  pub range : bad-range s a n ≡ false
-  pub ranged : Ranged s a n
-  pub block : a / s .size < s .blocks
-  pub tag : tag-at s (view s image) a ≤ s .boards
+  pub write-tests-as : refusal-at image r (Write i a bytes) ≡ first (as-read ++ tagged-test ∷ [])
+  unfolding refusals entry-tests read-tests write-tests first
+  write-tests-as = rw (le-ltb (length bytes) (length bytes) (omega arith), both)
 
-module _ {s : Shape} (image : List ℕ) (r : Record) (i a n : ℕ) (e : shape-of image ≡ s) where
-  admitted : Entered s image r i → bad-range s a n ≡ false
-      → anyOf (ltb (s .boards)) (tags-of s (view s image) a n) ≡ false → Admitted s image i a n
-  admitted f ok tags =
-      let g = subst (λ t. Geometry 0 t image) e (geometry (f .ordered)) in
-      let area = ranged s a n ok in
-      record {
-        shape = e;
-        geometry = g;
-        board = f .board;
-        range = ok;
-        ranged = area;
-        block = block-below s a (omega arith) (omega arith);
-        tag =
-            ltb-false (s .boards) (tag-at s (view s image) a)
-            (sym (any-one s (view s image) a n ok (ltb (s .boards))) ∙ tags);
-      }
-
-  -- the refusal of a call, for the shape that was read
-  pub refusal-of-shape : (request : Request) → refusal-at image r request ≡ 0
-      → first (refusals image s (view s image) r request) ≡ 0
-  refusal-of-shape request f = subst (λ t. first (refusals image t (view t image) r request) ≡ 0) e f
-
-  admitted-read : (room : ℕ) → refusal-at image r (Read i a n room) ≡ 0 → Admitted s image i a n × (n ≤ room)
-  unfolding refusals
-  admitted-read room f =
-      let both = entry-first image r i (read-tests s (view s image) r i a n room)
-      (refusal-of-shape (Read i a n room) f) in
-      let p = read-passed s (view s image) r i a n room (both .1) in
-      (admitted (entered image r i e (both .0)) (p .range) (p .tags), p .fits)
-
-  admitted-write : (bytes : List ℕ) → length bytes ≡ n → refusal-at image r (Write i a bytes) ≡ 0
-      → Admitted s image i a n
-  unfolding refusals
-  admitted-write bytes l f =
-      let g = subst (λ k. first (entry-tests image r i ++ write-tests s (view s image) r i a k) ≡ 0) l
-      (refusal-of-shape (Write i a bytes) f) in
-      let both = entry-first image r i (write-tests s (view s image) r i a n) g in
-      let p = write-passed s (view s image) r i a n (both .1) in
-      admitted (entered image r i e (both .0)) (p .range) (p .tags)
-
--- the same from what the code has: the shape that was read, and the number that the tests gave
-module _ (image : List ℕ) (r : Record) (i a : ℕ) {s : Shape} {k : ℕ} (e : s ≡ shape-of image) where
-  pub read-admitted : (n room : ℕ) → k ≡ refusal-at image r (Read i a n room) → k ≡ 0
-      → Admitted s image i a n × (n ≤ room)
-  read-admitted n room f z = admitted-read image r i a n (sym e) room (sym f ∙ z)
-
-  pub write-admitted : (bytes : List ℕ) → k ≡ refusal-at image r (Write i a bytes) → k ≡ 0
-      → Admitted s image i a (length bytes)
-  write-admitted bytes f z = admitted-write image r i a (length bytes) (sym e) bytes refl (sym f ∙ z)
+  pub write-last : {p : Place} → first as-read ≡ 0 → Placed image r i a (length bytes) (length bytes) p
+      → refusal-at image r (Write i a bytes) ≡ first (test (tagged-in (engaged r) (p .tag)) 13 ∷ [])
+  unfolding refusals entry-tests read-tests anyOf
+  write-last {p} z k =
+      let s = shape-of image in
+      write-tests-as ∙ first-goes-on as-read (tagged-test ∷ []) refl z
+      ∙ ap (λ b. first (test b 13 ∷ []))
+      (any-one s (view s image) a (length bytes) (k .range) (tagged-in (engaged r))
+      ∙ ap (tagged-in (engaged r)) (sym (k .tag)))

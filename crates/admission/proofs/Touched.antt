@@ -1,13 +1,14 @@
 -- An access that is not refused 2 touches one block: its tags, its links, its tests.
 use Prim.Native.Nat.{ℕ, _+_, _-_, _/_}
-use mathlib.Core.Path.{_≡_, refl, ap}
-use mathlib.Core.Bool.{Bool, true, false, _||_}
+use mathlib.Core.Path.{_≡_, ap}
+use mathlib.Core.Bool.{Bool, true, false, or-false as or-none}
 use mathlib.Core.List.{[], _∷_, map}
 use lib.Dec.{eqb, ltb}
 use Rattle.boards.specs.Lists.{anyOf}
 use Rattle.protocol.specs.Image.{Tags, Memory, cells}
 use Rattle.volatile.specs.Volatile.{depend}
-use Rattle.protocol.specs.Accesses.{touched, Binding, bind-tag, bind-blocks}
+use Rattle.protocol.specs.Accesses.{touched, bind-tag, bind-blocks}
+use Rattle.protocol.specs.declared.Binding.{Binding}
 use Rattle.protocol.specs.Calls.{tags-of, bad-range}
 use Rattle.protocol.specs.declared.Shape.{Shape}
 use Rattle.volatile.specs.declared.Record.{Record}
@@ -32,10 +33,6 @@ module _ (s : Shape) (m : Memory) (a n : ℕ) (ok : bad-range s a n ≡ false) w
   pub any-one : (t : ℕ → Bool) → anyOf t (tags-of s m a n) ≡ t (m Tags (a / s .size))
   unfolding anyOf
   any-one t = rw tags-one (or-none (t (m Tags (a / s .size))))
-    where
-      or-none : (b : Bool) → b || false ≡ b
-      or-none true = refl
-      or-none false = refl
 
   pub bind-one : (how : ℕ → Binding) (r : Record) (i : ℕ)
       → bind-blocks depend how (m Tags) r i (touched s a n) ≡ bind-tag depend (how (a / s .size)) r i

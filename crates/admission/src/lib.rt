@@ -1,17 +1,45 @@
-// What a read and a write test: the first tests, and those of their range and block.
+// What a read and a write test, and where an access that is taken lies.
 use boards::sets::has;
 use boards::sets::tagged_in;
-use entry::entry_refusal;
-use layout::shape_of;
+use entry::Entry;
+use entry::enter;
+use layout::TAGS;
+use layout::current_at;
 use protocol::Shape;
 use volatile::Record;
 ghost use mathlib.Core.Path.{_≡_};
 ghost use mathlib.Core.Bool.{true};
 ghost use Prim.Native.Nat.{_*_, _<_};
 ghost use lib.ListN.{length};
-ghost use Rattle.protocol.specs.Image.{allowed, total, view};
-ghost use Rattle.protocol.specs.Calls.{Read, Write, first, refusal-at, bad-range, read-tests, write-tests};
-ghost use Rattle.admission.specs.Tags.{tag-at};
+ghost use Rattle.protocol.specs.Image.{allowed, total};
+ghost use Rattle.protocol.specs.Calls.{Read, Write, refusal-at, bad-range};
+ghost use Rattle.entry.specs.Tested.{number-of, Tested};
+ghost use Rattle.admission.specs.Places.{place-at, admission-says, Placed};
+
+// Where an access begins in the image; its block, and that block's tag.
+pub struct Place {
+    pub at: usize,
+    pub block: usize,
+    pub tag: u8,
+}
+
+// What the tests of an access answer: the number of the refusal, or where it lies.
+pub enum Admission {
+    Refused(u8),
+    Taken(Place),
+}
+
+impl Admission {
+    // The number of the refusal, 0 for none.
+    pub fn number(self) -> u8
+        ensures { λ r. ⌜ r ≡ number-of (admission-says self) ⌝ }
+    {
+        match self {
+            Admission::Refused(n) => n,
+            Admission::Taken(_) => 0,
+        }
+    }
+}
 
 // 2: n is 0 or above S, or the access passes the last cell or leaves its block.
 fn bad_range(s: Shape, cell: usize, n: usize) -> bool
@@ -35,94 +63,70 @@ fn bad_range(s: Shape, cell: usize, n: usize) -> bool
     cell / size != (cell + n - 1) / size
 }
 
-// The tag of the block at a cell.
-pub fn block_tag(image: &[u8], s: Shape, cell: usize) -> u8
+// Where an access that begins at a cell lies.
+fn locate(image: &[u8], s: Shape, cell: usize) -> Place
     requires { ⌜ (allowed s ≡ true) × (length (now image) ≡ total s) × (cell < s .blocks * s .size) ⌝ }
-    ensures { λ r. ⌜ r ≡ tag-at s (view s (now (image .entry))) cell ⌝ }
+    ensures { λ r. ⌜ r ≡ place-at s (now (image .entry)) cell ⌝ }
 {
-    let b = cell / s.size;
-    image[12 + b]
+    let block = cell / s.size;
+    let tag = image[TAGS + block];
+    let at = current_at(s) + cell;
+    Place { at, block, tag }
 }
 
-// What a read tests after the first tests: 2, 5, 11 for the block's tag, 13.
-fn read_tests(
+// A read: the tests of every call, then 2, 5, 11 for the block's tag, 13.
+pub fn admit(
     image: &[u8],
-    s: Shape,
     state: Record,
     board: usize,
     cell: usize,
     n: usize,
     room: usize,
-) -> u8
-    requires { ⌜ (allowed s ≡ true) × (length (now image) ≡ total s) × (board < s .boards) ⌝ }
-    ensures { λ r. ⌜ r ≡ first (read-tests s (view s (now (image .entry))) state board cell n room) ⌝ }
+) -> Admission
+    ensures { λ r. ⌜ Tested (refusal-at (now (image .entry)) state (Read board cell n room))
+        (Placed (now (image .entry)) state board cell n room) (admission-says r) ⌝ }
 {
+    let entry = enter(image, state, board);
+    let Entry::Taken(s) = entry else {
+        return Admission::Refused(entry.number());
+    };
     if bad_range(s, cell, n) {
-        return 2;
+        return Admission::Refused(2);
     }
     if n > room {
-        return 5;
+        return Admission::Refused(5);
     }
-    let tag = block_tag(image, s, cell);
-    if tag as usize > s.boards {
-        return 11;
+    let p = locate(image, s, cell);
+    if p.tag as usize > s.boards {
+        return Admission::Refused(11);
     }
     let members = state.engaged();
     if has(members, board as u8) {
-        return 13;
+        return Admission::Refused(13);
     }
-    0
+    Admission::Taken(p)
 }
 
-// A read's refusal, 0 for none.
-pub fn read_refusal(
+// A write: as a read with room enough, then 13 for a member's block.
+pub fn admit_write(
     image: &[u8],
     state: Record,
     board: usize,
     cell: usize,
-    n: usize,
-    room: usize,
-) -> u8
-    ensures { λ r. ⌜ r ≡ refusal-at (now (image .entry)) state (Read board cell n room) ⌝ }
+    bytes: &[u8],
+) -> Admission
+    ensures { λ r. ⌜ Tested (refusal-at (now (image .entry)) state (Write board cell (now (bytes .entry))))
+        (Placed (now (image .entry)) state board cell (length (now (bytes .entry)))
+        (length (now (bytes .entry)))) (admission-says r) ⌝ }
 {
-    let early = entry_refusal(image, state, board);
-    if early != 0 {
-        return early;
-    }
-    let s = shape_of(image);
-    read_tests(image, s, state, board, cell, n, room)
-}
-
-// What a write tests after the first tests: 2, 11 for the block's tag, 13 for a member and for a member's block.
-fn write_tests(image: &[u8], s: Shape, state: Record, board: usize, cell: usize, n: usize) -> u8
-    requires { ⌜ (allowed s ≡ true) × (length (now image) ≡ total s) × (board < s .boards) ⌝ }
-    ensures { λ r. ⌜ r ≡ first (write-tests s (view s (now (image .entry))) state board cell n) ⌝ }
-{
-    if bad_range(s, cell, n) {
-        return 2;
-    }
-    let tag = block_tag(image, s, cell);
-    if tag as usize > s.boards {
-        return 11;
-    }
+    let n = bytes.len();
+    let admission = admit(image, state, board, cell, n, n);
+    let Admission::Taken(p) = admission else {
+        return admission;
+    };
     let members = state.engaged();
-    if has(members, board as u8) {
-        return 13;
+    if tagged_in(members, p.tag) {
+        return Admission::Refused(13);
     }
-    if tagged_in(members, tag) {
-        return 13;
-    }
-    0
-}
-
-// A write's refusal, 0 for none.
-pub fn write_refusal(image: &[u8], state: Record, board: usize, cell: usize, bytes: &[u8]) -> u8
-    ensures { λ r. ⌜ r ≡ refusal-at (now (image .entry)) state (Write board cell (now (bytes .entry))) ⌝ }
-{
-    let early = entry_refusal(image, state, board);
-    if early != 0 {
-        return early;
-    }
-    let s = shape_of(image);
-    write_tests(image, s, state, board, cell, bytes.len())
+    admission
 }

@@ -31,17 +31,8 @@ returns-4 c =
     let args = few .before .before .args in
     range-past (args .s) (args .cell) (args .n) (few .before .if1 .left) (few .if2 .left) (c .if4 .taken)
 
-div-result : tie.Need-div-result
-div-result c = omega arith
-
 add-result : tie.Need-add-result
 add-result c = omega (arith, bounded (c .before .before .before .before .before .pre))
-
-sub-result : tie.Need-sub-result
-sub-result c = omega arith
-
-div-result-2 : tie.Need-div-result-2
-div-result-2 c = omega arith
 
 returns-5 : tie.Need-returns-5
 returns-5 c =
@@ -59,8 +50,8 @@ bad-range-spec =
     returns-3
     add-if4
     returns-4
-    div-result
+    (λ c. omega arith)
     add-result
-    sub-result
-    div-result-2
+    (λ c. omega arith)
+    (λ c. omega arith)
     returns-5)

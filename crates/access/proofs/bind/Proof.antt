@@ -1,0 +1,78 @@
+-- `bind` meets its contract: nothing for no writer and for the board itself, else one link or one each way.
+use mathlib.Core.Path.{_∙_, ap}
+use native.Mathlib.Omega.{arith}
+use Rattle.boards.specs.Boards.{tag-of}
+use Rattle.protocol.specs.Accesses.{bind-boards}
+use Rattle.volatile.specs.Volatile.{depend}
+use Rattle.access.proofs.Laws.{bind-none, bind-own, bind-other}
+use Rattle.access.proofs.bind.Statement.{statement}
+use Rattle.access.proofs.bind.Tie as tie
+
+returns : tie.Need-returns
+returns c =
+    let named = c .before .before in
+    let args = named .before .args in
+    bind-none (args .how) (args .state) (args .i) (named .writer-of .ensures ∙ ap tag-of (c .enum-told .given .1))
+
+returns-2 : tie.Need-returns-2
+returns-2 c =
+    let opened = c .before .before in
+    let named = opened .before .before in
+    let args = named .before .args in
+    bind-own (args .how) (args .state) (args .i) _ (named .writer-of .ensures ∙ ap tag-of (opened .j .given .1))
+    (c .if1 .taken)
+
+depend-requires : tie.Need-depend-requires
+depend-requires c κs =
+    let opened = c .before .before in
+    let named = opened .before .before in
+    let tag = named .writer-of .ensures ∙ ap tag-of (opened .j .given .1) in
+    (omega (arith, named .before .pre, tag), omega (arith, named .before .pre, tag))
+
+depend-requires-2 : tie.Need-depend-requires-2
+depend-requires-2 c κs =
+    let opened = c .before .before .before .before .before in
+    let named = opened .before .before in
+    let tag = named .writer-of .ensures ∙ ap tag-of (opened .j .given .1) in
+    (omega (arith, named .before .pre, tag), omega (arith, named .before .pre, tag))
+
+returns-3 : tie.Need-returns-3
+unfolding bind-boards
+returns-3 c =
+    let once = c .before .before in
+    let opened = once .before .before .before in
+    let named = opened .before .before in
+    let args = named .before .args in
+    let tag = named .writer-of .ensures ∙ ap tag-of (opened .j .given .1) in
+    once .depend .ensures
+    ∙ rw (c .enum-told2 .given .1)
+    (bind-other _ (args .state) (args .i) _ tag (once .before .if1 .left))
+
+returns-4 : tie.Need-returns-4
+unfolding bind-boards
+returns-4 c =
+    let once = c .before .before .before in
+    let opened = once .before .before .before in
+    let named = opened .before .before in
+    let args = named .before .args in
+    let tag = named .writer-of .ensures ∙ ap tag-of (opened .j .given .1) in
+    c .depend2 .ensures
+    ∙ ap (λ r. depend r (opened .j .given .0 .0) (args .i)) (once .depend .ensures)
+    ∙ rw (c .before .enum-told3 .given .1)
+    (bind-other _ (args .state) (args .i) _ tag (once .before .if1 .left))
+
+pub bind-spec : {M : Type 1} → statement M
+bind-spec =
+    tie.close
+    (tie.spec
+    (λ c κs. tt)
+    (λ c. omega arith)
+    (λ c. omega arith)
+    returns
+    returns-2
+    depend-requires
+    (λ c. omega arith)
+    (λ c. omega arith)
+    depend-requires-2
+    returns-3
+    returns-4)
