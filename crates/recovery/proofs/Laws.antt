@@ -1,123 +1,99 @@
--- Power-up by its parts: its tests in order, its completion, and a rollback of all tagged blocks.
-use Prim.Native.Nat.{ℕ, zero, suc, _+_, _*_, _≤_, _<_}
-use mathlib.Core.Path.{_≡_, refl, sym, _∙_, ap}
-use mathlib.Core.Bool.{Bool, true, false}
-use mathlib.Core.List.{List, map}
+-- Power-up by its parts: its tests, the decision, the completion, and the rollback of all tagged blocks.
+use Prim.Native.Nat.{ℕ, zero, suc, _≤_}
+use mathlib.Core.Path.{_≡_, refl, ap, subst, fun-ext}
+use mathlib.Core.Bool.{Bool, false, not, cond, _||_}
+use mathlib.Core.List.{List, _++_}
 use mathlib.Core.Logic.{⊎-elim}
 use lib.Dec.{eqb, ltb}
-use lib.ListN.{length, getD}
 use native.Mathlib.Omega.{arith}
-use native.Mathlib.Numerals.{add-one}
-use borrow.Author.Tests.{ltb-false, ne-eqb, lt-ltb, le-ltb}
-use Rattle.boards.specs.Lists.{for, any, every}
-use Rattle.boards.specs.Boards.{has}
-use Rattle.protocol.specs.Image.{Decision, Tags, Current, Recovery, Memory, raw, base, size, view}
-use Rattle.protocol.specs.Image.{after, total}
-use Rattle.protocol.specs.Calls.{stored-group, bad-tags, block-copied, blocks-copied, completing, completed-first}
-use Rattle.protocol.specs.Calls.{recovering}
-use Rattle.boards.specs.Boards.{tagged, tagged-in}
+use borrow.Author.Tests.{ltb-true, ltb-false, ne-eqb}
+use Rattle.boards.specs.Lists.{for, every}
+use Rattle.boards.specs.Boards.{beyond, has, tagged, tagged-in}
+use Rattle.protocol.specs.Image.{Tags, Current, Recovery, Memory, base, size, byte, view, after, in-order, shape-of}
+use Rattle.protocol.specs.Calls.{Power-up, first, power-tests, refusal-at, stored-group, bad-tags, bad-decision}
+use Rattle.protocol.specs.Calls.{block-copied, blocks-copied, completing, completed-first, recovering, plan}
+use Rattle.volatile.specs.Volatile.{fresh}
 use Rattle.protocol.specs.declared.Shape.{Shape}
-use Rattle.boards.proofs.Basics.{decide, any-none, some-any, false-or, every-at}
-use Rattle.protocol.proofs.Bridge.{view-made-fun}
-use Rattle.protocol.proofs.Safety.{completed}
-use Rattle.store.specs.Budget.{WellBudget}
+use Rattle.protocol.specs.declared.Reply.{Reply}
+use Rattle.volatile.specs.declared.Record.{Record}
+use Rattle.boards.proofs.Basics.{decide, any-none, every-at}
+use Rattle.protocol.proofs.Order.{tags-low, first-low}
+use Rattle.protocol.proofs.Plans.{first-valid, recovering-quiet}
+use Rattle.store.specs.Budget.{start}
 use Rattle.store.specs.declared.Budget.{Budget}
-use Rattle.store.proofs.Laws.{makes-instead, makes-all, makes-well, makes-none}
 use Rattle.store.specs.Puts.{Puts}
-use Rattle.layout.proofs.Laws.{tag-read}
-use Rattle.blocks.proofs.Composite.{recovers, first-valid}
+use Rattle.store.specs.Promise.{Performed, reply-of}
+use Rattle.store.proofs.Laws.{well-start}
+use Rattle.store.proofs.Chains.{puts-none, then-reads}
+use Rattle.store.proofs.Ends.{ended}
+use Rattle.layout.proofs.Laws.{bounded}
+use Rattle.recovery.specs.Recoverable.{Recoverable, Decides}
+use Rattle.recovery.specs.declared.Decided.{Decided}
+use Rattle.recovery.specs.declared.Decided.the-variants.{Commit, Nothing}
 
--- ---- what is read
+-- the tests in their order, by what each answered
+pub by-tests : {s : Shape} (x : List ℕ) {ordered tags decision : Bool} → in-order 1 x ≡ ordered → shape-of x ≡ s
+    → tags ≡ bad-tags s (view s x) → decision ≡ bad-decision s (view s x)
+    → first (power-tests x (shape-of x) (view (shape-of x) x))
+    ≡ cond (not ordered) 11 (cond tags 11 (cond decision 11 0))
+unfolding power-tests first
+by-tests x e f g h = rw (e, f, ← g, ← h)
 
-pub decision-read : (s : Shape) (x : List ℕ) → view s x Decision 0 ≡ getD x 9 0
-unfolding view base size
-decision-read s x = refl
+-- the decision that was read, as the tests and the plan see it
+module _ (s : Shape) (x : List ℕ) {d : Decided} (h : Decides x d) where
+  pub nothing-bad : d ≡ Nothing → false ≡ bad-decision s (view s x)
+  unfolding bad-decision view base size
+  nothing-bad e = rw (ne-eqb (byte x 9) 1 (subst (Decides x) e h))
 
-pub group-read : (s : Shape) (x : List ℕ) → stored-group (view s x) ≡ getD x 10 0 + 256 * getD x 11 0
-unfolding stored-group view base size
-group-read s x = refl
+  pub group-bad : {g : ℕ} {empty : Bool} → d ≡ Commit g → eqb g 0 ≡ empty
+      → empty || beyond (s .boards) g ≡ bad-decision s (view s x)
+  unfolding bad-decision stored-group view base size
+  group-bad e f = let both = subst (Decides x) e h in rw (both .0, ← both .1, f)
+
+  pub nothing-first : {b : Budget} → d ≡ Nothing → Puts s (completed-first s (view s x)) b x b x
+  unfolding completed-first view base size
+  nothing-first e = rw (ne-eqb (byte x 9) 1 (subst (Decides x) e h)) (puts-none s _ x)
+
+  pub group-first : {g : ℕ} {b r : Budget} {y : List ℕ} → d ≡ Commit g → Puts s (completing s (view s x) g) b x r y
+      → Puts s (completed-first s (view s x)) b x r y
+  unfolding completed-first stored-group view base size
+  group-first e p = let both = subst (Decides x) e h in rw (both .0, ← both .1) p
 
 -- ---- all blocks that have a tag are those tagged in the set of all boards
 
-for-ext : {X : Type 0} (n : ℕ) (f g : ℕ → List X) → ((i : ℕ) → i < n → f i ≡ g i) → for n f ≡ for n g
-unfolding for
-for-ext zero f g h = refl
-for-ext (suc n) f g h = rw (for-ext n f g (λ i l. h i (omega arith)), h n (omega arith))
-
-pub all-tagged : (t : ℕ) → t ≤ 16 → tagged-in 65535 t ≡ tagged t
+all-tagged : (t : ℕ) → t ≤ 16 → tagged-in 65535 t ≡ tagged t
 unfolding tagged tagged-in every has
 all-tagged zero l = refl
 all-tagged (suc j) l = every-at 16 (has 65535) refl j l
 
-tags-all : (s : Shape) (m : Memory) → ((b : ℕ) → b < s .blocks → m Tags b ≤ 16)
+tags-all : (s : Shape) (m : Memory) → ((b : ℕ) → m Tags b ≤ 16)
     → blocks-copied s m Recovery Current (tagged-in 65535) ≡ blocks-copied s m Recovery Current tagged
 unfolding blocks-copied block-copied
-tags-all s m small =
-    for-ext (s .blocks) (block-copied s m Recovery Current (tagged-in 65535)) (block-copied s m Recovery Current tagged)
-    (λ b l. rw (all-tagged (m Tags b) (small b l)))
+tags-all s m small = ap (for (s .blocks)) (fun-ext (λ b. rw (all-tagged (m Tags b) (small b))))
 
--- the completion leaves no larger tag
-tags-after : (s : Shape) → 0 < s .size → (m : Memory) → ((b : ℕ) → b < s .blocks → m Tags b ≤ 16)
-    → (b : ℕ) → b < s .blocks → after (completed-first s m) m Tags b ≤ 16
-unfolding completed-first after
-tags-after s positive m small b l =
+-- no tag is above P, nor past the last block
+tags-few : (s : Shape) (x : List ℕ) → bad-tags s (view s x) ≡ false → (b : ℕ) → view s x Tags b ≤ s .boards
+unfolding bad-tags view size
+tags-few s x h b =
     ⊎-elim
-    (λ (e : eqb (m Decision 0) 1 ≡ true).
-    let g = stored-group m in
-    let c = completed s positive m g in
-    rw e
-    (⊎-elim
-    (λ (f : tagged-in g (m Tags b) ≡ true). rw (c .tag-zero b l f) (omega arith))
-    (λ (f : tagged-in g (m Tags b) ≡ false). rw (c .tag-left b f) (small b l))
-    (decide (tagged-in g (m Tags b)))))
-    (λ (e : eqb (m Decision 0) 1 ≡ false). rw e (small b l))
-    (decide (eqb (m Decision 0) 1))
+    (λ l. ltb-false (s .boards) (view s x Tags b) (any-none (s .blocks) _ h b (ltb-true b (s .blocks) l)))
+    (λ (l : ltb b (s .blocks) ≡ false). rw l (omega arith))
+    (decide (ltb b (s .blocks)))
 
--- ---- the whole of it
-
-module _ {s : Shape} {x : List ℕ} (positive : 0 < s .size) (most : s .boards ≤ 16) (long : length x ≡ total s) {b r r′ : Budget}
-    {y z : List ℕ} (well : WellBudget b)
-  where
-    pub powered : bad-tags s (view s x) ≡ false → Puts s (completed-first s (view s x)) b x r y
-        → Puts s (blocks-copied s (view s y) Recovery Current (tagged-in 65535)) r y r′ z → Puts s (recovering s (view s x)) b x r′ z
-    unfolding bad-tags
-    powered e p q =
-        let m = view s x in
-        let small : (c : ℕ) → c < s .blocks → m Tags c ≤ 16 =
-        λ c l. (let k = ltb-false (s .boards) (m Tags c) (any-none (s .blocks) _ e c l) in omega arith)
-        in
-        let seen : r .cut ≡ false → view s y ≡ after (completed-first s m) m =
-        λ f. ap (view s) (makes-all (p .makes) f) ∙ view-made-fun s (completed-first s m) x long (first-valid s m)
-        in
-        recovers long well p
-        (record {
-          makes =
-              makes-instead (q .makes) (map (raw s) (blocks-copied s (view s y) Recovery Current tagged)) (makes-well (p .makes) well)
-              (λ f. ap (map (raw s)) (tags-all s (view s y) (λ c l. rw (seen f) (tags-after s positive m small c l))));
-        })
-
--- the completion, if there is one
-module _ {s : Shape} {x : List ℕ} {b : Budget} where
-  pub none-first : (getD x 9 0 ≡ 1 → ⊥) → Puts s (completed-first s (view s x)) b x b x
-  unfolding completed-first
-  none-first e = record { makes = rw (decision-read s x, ne-eqb (getD x 9 0) 1 e) (makes-none b x) }
-
-  pub some-first : {r : Budget} {y : List ℕ} (g : ℕ) → getD x 9 0 ≡ 1 → g ≡ getD x 10 0 + 256 * getD x 11 0
-      → Puts s (completing s (view s x) g) b x r y → Puts s (completed-first s (view s x)) b x r y
-  unfolding completed-first
-  some-first g e f p = rw (decision-read s x, e, group-read s x, ← f) p
-
--- ---- the search for a tag that is too large
-
-pub none-more : (n : ℕ) (p : ℕ → Bool) → any n p ≡ false → p n ≡ false → any (n + 1) p ≡ false
-unfolding any
-none-more n p h e = rw add-one (false-or h e)
-
-module _ (s : Shape) (x : List ℕ) (b : ℕ) (l : b < s .blocks) where
-  pub tag-large : s .boards < getD x (12 + b) 0 → true ≡ bad-tags s (view s x)
-  unfolding bad-tags
-  tag-large h =
-      sym (some-any (s .blocks) (λ c. ltb (s .boards) (view s x Tags c)) b l (rw (tag-read s x b l) (lt-ltb (s .boards) (getD x (12 + b) 0) h)))
-
-  pub tag-small : getD x (12 + b) 0 ≤ s .boards → ltb (s .boards) (view s x Tags b) ≡ false
-  tag-small h = rw (tag-read s x b l) (le-ltb (s .boards) (getD x (12 + b) 0) h)
+-- a power-up that is taken: the completion, then the rollback of the blocks tagged in the set of all boards
+pub power-done : {s : Shape} {x y z : List ℕ} (state : Record) {k : ℕ} {b r left : Budget} {next : Record}
+    {reply : Reply} → Recoverable x s → refusal-at x state Power-up ≡ 0 → next ≡ fresh → b ≡ start k
+    → Puts s (completed-first s (view s x)) b x r y
+    → Puts s (blocks-copied s (view s y) Recovery Current (tagged-in 65535)) r y left z
+    → reply ≡ reply-of k left false 0 next → Performed Power-up k x state reply z
+unfolding plan recovering
+power-done {s} {x} {z = z} state {k} {b} {left = left} h n f new p q e =
+    let m = view s x in
+    let done = completed-first s m in
+    let most = bounded (h .shaped .allowed-shape) .limits .most-boards in
+    let same = tags-all s (after done m)
+    (λ c. omega (arith, tags-low (first-low s m) m c (tags-few s x (h .tags) c))) in
+    let both = then-reads done (λ n. blocks-copied s n Recovery Current (tagged-in 65535)) (h .shaped .long)
+    (first-valid s m) (well-start new) p q in
+    let puts = subst (λ ps. Puts s (done ++ ps) b x left z) same both in
+    ended state Power-up (h .shaped .shape) n new (puts .makes) (recovering-quiet s m k) refl f e

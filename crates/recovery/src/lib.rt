@@ -2,8 +2,13 @@
 use blocks::complete;
 use blocks::copy_blocks;
 use boards::sets::beyond;
-use layout::in_order;
-use layout::shape_of;
+use entry::Entry;
+use layout::DECISION;
+use layout::GROUP_HIGH;
+use layout::GROUP_LOW;
+use layout::Header;
+use layout::TAGS;
+use layout::read_header;
 use protocol::Reply;
 use protocol::Shape;
 use store::Budget;
@@ -13,35 +18,53 @@ use volatile::Record;
 ghost use mathlib.Core.Path.{_≡_};
 ghost use mathlib.Core.Bool.{true};
 ghost use Prim.Native.Nat.{_+_, _*_, _≤_};
-ghost use lib.ListN.{length, getD};
+ghost use lib.ListN.{length};
 ghost use Rattle.protocol.specs.Image.{allowed, total, view, shape-of};
 ghost use Rattle.protocol.specs.Calls.{Power-up, first, power-tests, bad-tags, bad-decision, completed-first};
 ghost use Rattle.volatile.specs.declared.Record.{Record as State};
 ghost use Rattle.store.specs.Budget.{WellBudget};
 ghost use Rattle.store.specs.Puts.{Puts};
 ghost use Rattle.store.specs.Promise.{Performed};
+ghost use Rattle.entry.specs.Tested.{Tested, entry-says};
+ghost use Rattle.recovery.specs.Recoverable.{Recoverable, Decides};
+
+// What an image decides: the commit of this group, or nothing.
+enum Decided {
+    Commit(u16),
+    Nothing,
+}
+
+// A number of two bytes.
+fn word(low: u8, high: u8) -> u16
+    ensures { λ r. ⌜ r ≡ low + 256 * high ⌝ }
+{
+    low as u16 + 256 * (high as u16)
+}
+
+// The decision and, where it is 1, its group, low byte first.
+fn read_decision(image: &[u8]) -> Decided
+    requires { ⌜ 12 ≤ length (now image) ⌝ }
+    ensures { λ r. ⌜ Decides (now (image .entry)) r ⌝ }
+{
+    if image[DECISION] != 1 {
+        return Decided::Nothing;
+    }
+    let low = image[GROUP_LOW];
+    let high = image[GROUP_HIGH];
+    Decided::Commit(word(low, high))
+}
 
 // Whether a tag is above P.
 fn bad_tags(image: &[u8], s: Shape) -> bool
     requires { ⌜ (allowed s ≡ true) × (length (now image) ≡ total s) ⌝ }
     ensures { λ r. ⌜ r ≡ bad-tags s (view s (now (image .entry))) ⌝ }
 {
-    let mut b = 0;
-    while b < s.blocks {
-        if image[12 + b] as usize > s.boards {
+    for b in 0..s.blocks {
+        if image[TAGS + b] as usize > s.boards {
             return true;
         }
-        b += 1;
     }
     false
-}
-
-// The deciding group, low byte first.
-fn stored_group(image: &[u8]) -> u16
-    requires { ⌜ 12 ≤ length (now image) ⌝ }
-    ensures { λ r. ⌜ r ≡ getD (now (image .entry)) 10 0 + 256 * getD (now (image .entry)) 11 0 ⌝ }
-{
-    image[10] as u16 + 256 * (image[11] as u16)
 }
 
 // Whether a commit is decided for a group that is empty or has a board at or above P.
@@ -49,43 +72,42 @@ fn bad_decision(image: &[u8], s: Shape) -> bool
     requires { ⌜ (allowed s ≡ true) × (length (now image) ≡ total s) ⌝ }
     ensures { λ r. ⌜ r ≡ bad-decision s (view s (now (image .entry))) ⌝ }
 {
-    if image[9] != 1 {
+    let Decided::Commit(g) = read_decision(image) else {
         return false;
-    }
-    let g = stored_group(image);
+    };
     if g == 0 {
         return true;
     }
     beyond(s.boards as u8, g)
 }
 
-// 11, or 0 where power-up is taken.
-fn power_refusal(image: &[u8]) -> u8
-    ensures { λ r. ⌜ r ≡ first (power-tests (now (image .entry)) (shape-of (now (image .entry)))
-        (view (shape-of (now (image .entry))) (now (image .entry)))) ⌝ }
+// The tests of a power-up, each of which refuses with 11.
+fn power_entry(image: &[u8]) -> Entry
+    ensures { λ r. ⌜ Tested (first (power-tests (now (image .entry)) (shape-of (now (image .entry)))
+        (view (shape-of (now (image .entry))) (now (image .entry)))))
+        (Recoverable (now (image .entry))) (entry-says r) ⌝ }
 {
-    if !in_order(image, 1) {
-        return 11;
-    }
-    let s = shape_of(image);
+    let Header::InOrder(s) = read_header(image, 1) else {
+        return Entry::Refused(11);
+    };
     if bad_tags(image, s) {
-        return 11;
+        return Entry::Refused(11);
     }
     if bad_decision(image, s) {
-        return 11;
+        return Entry::Refused(11);
     }
-    0
+    Entry::Taken(s)
 }
 
 // A decided commit is completed.
 fn complete_first(image: &mut [u8], s: Shape, k: Budget) -> Budget
     requires { ⌜ (allowed s ≡ true) × (length (now image) ≡ total s) × WellBudget k ⌝ }
-    ensures { λ r. ⌜ Puts s (completed-first s (view s (now (image .entry)))) k (now (image .entry)) r (now (image .exit)) ⌝ }
+    ensures { λ r. ⌜ Puts s (completed-first s (view s (now (image .entry)))) k
+        (now (image .entry)) r (now (image .exit)) ⌝ }
 {
-    if image[9] != 1 {
+    let Decided::Commit(g) = read_decision(image) else {
         return k;
-    }
-    let g = stored_group(image);
+    };
     complete(image, s, g, k)
 }
 
@@ -93,16 +115,12 @@ fn complete_first(image: &mut [u8], s: Shape, k: Budget) -> Budget
 pub fn power_up(image: &mut [u8], k: usize) -> Reply
     ensures { λ r. ⌜ ((state : State) → Performed Power-up k (now (image .entry)) state r (now (image .exit))) ⌝ }
 {
-    let n = power_refusal(image);
-    if n != 0 {
+    let entry = power_entry(image);
+    let Entry::Taken(s) = entry else {
         let none = Record::off();
-        return refusal(n, none);
-    }
-    let s = shape_of(image);
-    let whole = Budget {
-        left: k,
-        cut: false,
+        return refusal(entry.number(), none);
     };
+    let whole = Budget::new(k);
     let first = complete_first(image, s, whole);
     let done = copy_blocks(image, s, 65535, false, first);
     let next = Record::fresh();

@@ -1,59 +1,46 @@
--- `bad_decision` meets its contract: byte 9, then the group that bytes 10 and 11 name.
+-- `bad_decision` meets its contract: a group that is decided, tested.
 use mathlib.Core.Path.{_∙_}
 use native.Mathlib.Omega.{arith}
-use denote.Ref.{now}
+use borrow.Author.Tests.{eq-eqb, ne-eqb}
 use Rattle.protocol.specs.Image.{total}
 use Rattle.layout.proofs.Laws.{bounded}
-use Rattle.recovery.proofs.Calls.{decision-none, decision-empty, decision-beyond}
+use Rattle.recovery.proofs.Laws.{nothing-bad, group-bad}
 use Rattle.recovery.proofs.bad_decision.Statement.{statement}
 use Rattle.recovery.proofs.bad_decision.Tie as tie
 
-shared-slice-read-if1 : tie.Need-shared-slice-read-if1
+read-decision-requires : tie.Need-read-decision-requires
 unfolding total
-shared-slice-read-if1 c = omega arith
+read-decision-requires c κs = omega arith
 
 returns : tie.Need-returns
-returns c =
-    let args = c .before .before .before .args in
-    decision-none (args .s) (now (args .image)) (c .if1 .taken)
-
-stored-group-requires : tie.Need-stored-group-requires
-unfolding total
-stored-group-requires c κs = omega arith
+returns c = nothing-bad _ _ (c .before .before .read-decision .ensures) (c .enum-told .given .1)
 
 returns-2 : tie.Need-returns-2
 returns-2 c =
-    let group = c .before in
-    let decided = group .before in
-    let args = decided .before .before .before .args in
-    decision-empty (args .s) (now (args .image)) _ (decided .if1 .left) (group .stored-group .ensures) (c .if2 .taken)
+    let opened = c .before .before in
+    group-bad _ _ (opened .before .before .read-decision .ensures) (opened .g .given .1) (eq-eqb _ _ (c .if1 .taken))
 
 cast-beyond : tie.Need-cast-beyond
 cast-beyond c =
-    let start = c .before .before .before .before .before .before in
+    let start = c .before .before .before .before .before .before .before in
     omega (arith, bounded (start .pre .0) .limits .most-boards)
-
-beyond-requires : tie.Need-beyond-requires
-beyond-requires c κs = tt
 
 returns-3 : tie.Need-returns-3
 returns-3 c =
-    let some = c .before .before in
-    let group = some .before in
-    let decided = group .before in
-    let args = decided .before .before .before .args in
-    c .beyond .ensures
-    ∙ decision-beyond (args .s) (now (args .image)) _ (decided .if1 .left) (group .stored-group .ensures)
-    (some .if2 .left)
+    let full = c .before .before in
+    let opened = full .before .before in
+    let some = ne-eqb _ _ (full .if1 .left) in
+    c .beyond .ensures ∙ group-bad _ _ (opened .before .before .read-decision .ensures) (opened .g .given .1) some
 
 pub bad-decision-spec : {M : Type 1} → statement M
 bad-decision-spec =
     tie.close
     (tie.spec
-    shared-slice-read-if1
+    read-decision-requires
+    (λ c. omega arith)
+    (λ c. omega arith)
     returns
-    stored-group-requires
     returns-2
     cast-beyond
-    beyond-requires
+    (λ c κs. tt)
     returns-3)
