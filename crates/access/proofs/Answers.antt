@@ -10,19 +10,20 @@ use lib.Seq.{take-nil}
 use native.Mathlib.Nat.{sub-self}
 use native.Mathlib.Numerals.{add-one}
 use native.Mathlib.Omega.{arith}
-use borrow.Author.Tests.{ne-eqb, le-ltb}
+use borrow.Author.Tests.{le-ltb}
 use Rattle.boards.specs.Lists.{span, anyOf}
 use Rattle.protocol.specs.Accesses.{touched, read-binding, write-binding, bind-tag}
 use Rattle.protocol.specs.declared.Binding.the-variants.{OneWay, TwoWay}
 use Rattle.protocol.specs.Image.{Current, Tags, Store, Put, raw, size, base, total, shape-of, view}
 use Rattle.volatile.specs.Volatile.{depend}
 use Rattle.protocol.specs.Calls.{Read, Write, refusal-at, refusal-of, tagging, placing, plan, refused, record-refused}
-use Rattle.protocol.specs.Calls.{executed, perform, filled}
+use Rattle.protocol.specs.Calls.{executed, filled}
 use Rattle.protocol.specs.declared.Shape.{Shape}
 use Rattle.volatile.specs.declared.Record.{Record}
 use Rattle.protocol.specs.declared.Reply.{Reply}
 use Rattle.boards.proofs.Basics.{length-span, span-same}
 use Rattle.protocol.proofs.Bridge.{view-at}
+use Rattle.protocol.proofs.Outcomes.{taken, turned-down}
 use Rattle.protocol.proofs.Plans.{ranged, write-inside, inside-quiet}
 use Rattle.store.specs.Budget.{Makes, start}
 use Rattle.store.specs.Runs.{put-stores}
@@ -76,18 +77,20 @@ none-spent b next = rw (← sub-self b)
 module _ {image : List ℕ} {r : Record} (i a n : ℕ) (buffer : List ℕ) where
   pub read-refused : (room : ℕ) {k : ℕ} {reply : Reply} → (refusal-at image r (Read i a n room) ≡ k) × (k ≢ 0)
       → reply ≡ refusal-of k r → Answered (Read i a n room) image r buffer reply buffer
-  unfolding perform refused record-refused filled
-  read-refused room {k} h f =
+  unfolding refused record-refused filled
+  read-refused room h f =
+      let request = Read i a n room in
       record {
-        reply = λ b. turned r (Read i a n room) {k = b} (h .0) (h .1) refl f .reply;
-        buffer = λ b. rw (h .0, ne-eqb k 0 (h .1));
+        reply = λ b. turned r request {k = b} (h .0) (h .1) refl f .reply;
+        buffer = λ b.
+            sym (ap (λ o. filled (o .bytes) buffer) (turned-down image refl r request (λ z. h .1 (sym (h .0) ∙ z)) b));
       }
 
   pub read-done : (room : ℕ) {p : Place} {b : Budget} {next : Record} {reply : Reply} {after : List ℕ}
       → (refusal-at image r (Read i a n room) ≡ 0) × Placed image r i a n room p
       → next ≡ bind-tag depend OneWay r i (p .tag) → after ≡ filled-from image (p .at) n buffer → b ≡ start 0
       → reply ≡ reply-of 0 b false 0 next → Answered (Read i a n room) image r buffer reply after
-  unfolding perform executed plan anyOf size read-binding
+  unfolding executed plan anyOf size read-binding
   read-done room {p} {next = next} known q f new g =
       let s = shape-of image in
       let k = known .1 in
@@ -99,7 +102,9 @@ module _ {image : List ℕ} {r : Record} (i a n : ℕ) (buffer : List ℕ) where
         reply = λ b.
             ended r (Read i a n room) refl (known .0) refl (makes-none (start b) image) (rw take-nil) refl bound
             (whole ∙ none-spent b next) .reply;
-        buffer = λ b. f ∙ bytes ∙ rw (known .0, le-ltb b 0 (omega arith));
+        buffer = λ b.
+            let o = ap (λ o. filled (o .bytes) buffer) (taken image refl r (Read i a n room) (known .0) b) in
+            f ∙ bytes ∙ sym (rw (le-ltb b 0 (omega arith)) at o);
       }
 
 -- ---- a write

@@ -6,6 +6,7 @@ use lib.Dec.{eqb}
 use lib.ListN.{getD, drop}
 use Rattle.boards.specs.Lists.{span}
 use Rattle.protocol.specs.Image.{Store}
+use Rattle.layout.specs.Headers.{tags-at}
 use Rattle.store.specs.Budget.{one}
 use Rattle.admission.specs.declared.Place.{Place}
 
@@ -15,4 +16,4 @@ filled-from image at n buffer = span (λ x. getD image x 0) at n ++ drop n buffe
 
 -- the tag of a place, if it is not the writer's
 unfoldable pub tag-store : Place → ℕ → List Store
-tag-store p i = cond (eqb (p .tag) (i + 1)) [] (one (12 + p .block) (i + 1) ∷ [])
+tag-store p i = cond (eqb (p .tag) (i + 1)) [] (one (tags-at + p .block) (i + 1) ∷ [])

@@ -21,6 +21,7 @@ ghost use lib.ListN.{length};
 ghost use Rattle.volatile.specs.Volatile.{depend};
 ghost use Rattle.protocol.specs.Accesses.{bind-tag};
 ghost use Rattle.protocol.specs.Calls.{Read, Write};
+ghost use Rattle.layout.specs.Headers.{tags-at};
 ghost use Rattle.store.specs.Budget.{Makes};
 ghost use Rattle.store.specs.Runs.{put-stores};
 ghost use Rattle.store.specs.Promise.{Performed, Answered};
@@ -79,7 +80,7 @@ pub fn read(
 
 // The tag of the block, if it is not the writer's.
 fn put_tag(image: &mut [u8], p: Place, i: u8, k: Budget) -> Budget
-    requires { ⌜ (12 + p .block < length (now image)) × (i < 16) ⌝ }
+    requires { ⌜ (tags-at + p .block < length (now image)) × (i < 16) ⌝ }
     ensures { λ r. ⌜ Makes (tag-store p i) k (now (image .entry)) r (now (image .exit)) ⌝ }
 {
     let own = i + 1;
@@ -91,7 +92,8 @@ fn put_tag(image: &mut [u8], p: Place, i: u8, k: Budget) -> Budget
 
 // The tag, then the bytes, ascending.
 fn put_bytes(image: &mut [u8], p: Place, i: u8, bytes: &[u8], k: Budget) -> Budget
-    requires { ⌜ (12 + p .block < length (now image)) × (p .at + length (now bytes) ≤ length (now image)) × (i < 16) ⌝ }
+    requires { ⌜ (tags-at + p .block < length (now image)) × (p .at + length (now bytes) ≤ length (now image))
+        × (i < 16) ⌝ }
     ensures { λ r. ⌜ Makes (tag-store p i ++ put-stores (p .at) (now (bytes .entry))) k
         (now (image .entry)) r (now (image .exit)) ⌝ }
 {

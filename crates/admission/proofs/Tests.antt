@@ -1,5 +1,5 @@
 -- The tests of a read and of a write in their order, and what an access that passed them knows.
-use Prim.Native.Nat.{ℕ, _+_, _/_, _≤_, _<_}
+use Prim.Native.Nat.{ℕ, _/_, _≤_, _<_}
 use mathlib.Core.Path.{_≡_, refl, sym, _∙_, ap, subst}
 use mathlib.Core.Bool.{Bool, true, false, _||_, cond}
 use mathlib.Core.List.{List, [], _∷_, _++_}
@@ -15,7 +15,7 @@ use Rattle.protocol.specs.Calls.{Read, Write, Test, test, first, refusals, refu
 use Rattle.protocol.specs.Calls.{entry-tests, read-tests, write-tests}
 use Rattle.protocol.specs.declared.Shape.{Shape}
 use Rattle.volatile.specs.declared.Record.{Record}
-use Rattle.protocol.proofs.Refusals.{entry-goes-on, first-goes-on, first-held, first-passed}
+use Rattle.protocol.proofs.Refusals.{entry-goes-on, first-goes-on}
 use Rattle.protocol.proofs.Safety.{block-below}
 use Rattle.layout.proofs.Laws.{bounded}
 use Rattle.entry.specs.Tested.{Tested, Entry-passed}
@@ -76,8 +76,8 @@ module _ {image : List ℕ} {r : Record} {i : ℕ} {s : Shape} (a n room : ℕ)
       read-five l = own ∙ rw (ok, lt-ltb room n l)
 
       module _ (fits : n ≤ room) {p : Place} (at : p ≡ place-at s image a) where
-        abbrev tag-read : view s image Tags (a / s .size) ≡ p .tag
-        tag-read = sym (ap (λ (p : Place). p .tag) at)
+        abbrev place-tag : view s image Tags (a / s .size) ≡ p .tag
+        place-tag = sym (ap (λ (p : Place). p .tag) at)
 
         pub read-eleven : s .boards < p .tag → refusal-at image r (Read i a n room) ≡ 11
         unfolding read-tests first
@@ -87,29 +87,22 @@ module _ {image : List ℕ} {r : Record} {i : ℕ} {s : Shape} (a n room : ℕ)
               any-one s (view s image) a n ok (ltb (s .boards)),
               ok,
               le-ltb room n fits,
-              tag-read,
+              place-tag,
               lt-ltb (s .boards) (p .tag) l,
             )
 
         module _ (fine : p .tag ≤ s .boards) where
-          last : refusal-at image r (Read i a n room) ≡ first (test (has (engaged r) i) 13 ∷ [])
+          pub read-last : refusal-at image r (Read i a n room) ≡ first (test (has (engaged r) i) 13 ∷ [])
           unfolding read-tests first
-          last =
+          read-last =
               own
               ∙ rw (
                 any-one s (view s image) a n ok (ltb (s .boards)),
                 ok,
                 le-ltb room n fits,
-                tag-read,
+                place-tag,
                 le-ltb (s .boards) (p .tag) fine,
               )
-
-          pub read-member : has (engaged r) i ≡ true → refusal-at image r (Read i a n room) ≡ 13
-          read-member h = last ∙ first-held 13 [] h
-
-          pub read-passes : has (engaged r) i ≡ false → refusal-at image r (Read i a n room) ≡ 0
-          unfolding first
-          read-passes h = last ∙ first-passed 13 [] h
 
 -- ---- a write tests what a read with room enough tests, and then the tag
 

@@ -27,7 +27,7 @@ unfolding touched
 touched-one s a n e = rw (one-block s a n e)
 
 module _ (s : Shape) (m : Memory) (a n : ℕ) (ok : bad-range s a n ≡ false) where
-  pub tags-one : tags-of s m a n ≡ m Tags (a / s .size) ∷ []
+  tags-one : tags-of s m a n ≡ m Tags (a / s .size) ∷ []
   tags-one = ap (map (m Tags)) (touched-one s a n ok)
 
   pub any-one : (t : ℕ → Bool) → anyOf t (tags-of s m a n) ≡ t (m Tags (a / s .size))

@@ -24,8 +24,8 @@ abbrev pub admission-says : Admission → ℕ ⊎ Place
 admission-says (Refused n) = inl n
 admission-says (Taken p) = inr p
 
--- What an access of n cells from a on knows that passed its tests: what every call does; its range, and that it fits
--- the room for its bytes; its place; that the tag is in order.
+-- What an access of n cells from a on knows that passed its tests: what every board's call does; its range, and that
+-- it fits the room for its bytes; its place; that the tag is in order.
 pub record Placed (image : List ℕ) (r : Record) (i a n room : ℕ) (p : Place) : Type 0 where
   pub entry : Entry-passed image r i (shape-of image)
   pub range : bad-range (shape-of image) a n ≡ false

@@ -13,7 +13,7 @@ ghost use Prim.Native.Nat.{_*_, _<_};
 ghost use lib.ListN.{length};
 ghost use Rattle.protocol.specs.Image.{allowed, total};
 ghost use Rattle.protocol.specs.Calls.{Read, Write, refusal-at, bad-range};
-ghost use Rattle.entry.specs.Tested.{number-of, Tested};
+ghost use Rattle.entry.specs.Tested.{refusal-number, Tested};
 ghost use Rattle.admission.specs.Places.{place-at, admission-says, Placed};
 
 // Where an access begins in the image; its block, and that block's tag.
@@ -32,7 +32,7 @@ pub enum Admission {
 impl Admission {
     // The number of the refusal, 0 for none.
     pub fn number(self) -> u8
-        ensures { λ r. ⌜ r ≡ number-of (admission-says self) ⌝ }
+        ensures { λ r. ⌜ r ≡ refusal-number (admission-says self) ⌝ }
     {
         match self {
             Admission::Refused(n) => n,
@@ -74,7 +74,7 @@ fn locate(image: &[u8], s: Shape, cell: usize) -> Place
     Place { at, block, tag }
 }
 
-// A read: the tests of every call, then 2, 5, 11 for the block's tag, 13.
+// A read: the first tests of a board's call, then 2, 5, 11 for the block's tag, 13.
 pub fn admit(
     image: &[u8],
     state: Record,

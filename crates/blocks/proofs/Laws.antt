@@ -1,17 +1,17 @@
 -- What a round of a copying loop reads is not changed by the rounds before it.
-use Prim.Native.Nat.{ℕ, zero, suc, _+_, _*_, _<_, _≤_}
+use Prim.Native.Nat.{ℕ, _*_}
 use mathlib.Core.Path.{_≡_, refl, sym, _∙_, ap, ap₂, fun-ext}
-use mathlib.Core.Bool.{Bool, true, false, cond}
+use mathlib.Core.Bool.{Bool, cond}
 use mathlib.Core.List.{List, [], _∷_, _++_}
 use mathlib.Core.Logic.{_≢_}
 use native.Mathlib.Omega.{arith}
 use Rattle.boards.specs.Lists.{for, span}
 use Rattle.boards.specs.Boards.{has}
-use Rattle.protocol.specs.Image.{Area, Tags, Tentative, Checkpoint, Memory, Put, put, rank, after}
-use Rattle.protocol.specs.Calls.{placing, copying, block-copied, blocks-copied, context-saved}
+use Rattle.protocol.specs.Image.{Area, Tags, Checkpoint, Memory, Put, put, rank, after}
+use Rattle.protocol.specs.Calls.{placing, copying, block-copied, context-saved}
 use Rattle.protocol.specs.declared.Shape.{Shape}
-use Rattle.boards.proofs.Basics.{All, all-for, clash}
-use Rattle.protocol.proofs.Memory.{Away, else-area, else-index, untouched}
+use Rattle.boards.proofs.Basics.{all-for}
+use Rattle.protocol.proofs.Memory.{else-area, else-index, untouched}
 use Rattle.protocol.proofs.Copies.{all-block, all-context}
 
 -- a round of the loop over blocks, by what it reads

@@ -16,6 +16,7 @@ ghost use lib.ListN.{length, getD};
 ghost use Rattle.boards.specs.Lists.{for};
 ghost use Rattle.protocol.specs.Image.{allowed, total, view};
 ghost use Rattle.protocol.specs.Calls.{context-saved, completing};
+ghost use Rattle.layout.specs.Headers.{tags-at};
 ghost use Rattle.store.specs.Budget.{WellBudget};
 ghost use Rattle.store.specs.Puts.{Puts};
 ghost use Rattle.blocks.specs.Banks.{block-puts, blocks-puts};
@@ -54,7 +55,7 @@ fn copy_block(image: &mut [u8], s: Shape, g: u16, save: bool, b: usize, k: Budge
 fn next_tagged(image: &[u8], s: Shape, b: usize) -> usize
     requires { ⌜ (allowed s ≡ true) × (length (now image) ≡ total s) × (b ≤ s .blocks) ⌝ }
     ensures { λ r. ⌜ (b ≤ r) × (r ≤ s .blocks)
-        × ((j : ℕ) → b ≤ j → j < r → getD (now (image .entry)) (12 + j) 0 ≡ 0) ⌝ }
+        × ((j : ℕ) → b ≤ j → j < r → getD (now (image .entry)) (tags-at + j) 0 ≡ 0) ⌝ }
 {
     let mut i = b;
     while i < s.blocks {

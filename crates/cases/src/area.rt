@@ -4,12 +4,12 @@ ghost use lib.ListN.{length};
 
 pub const PART: usize = 36000;
 
-// Where the image before a call, the one remembered or after a call, and a cut one stand.
+// Where the image before a call, the one remembered or after a call, and the one that a cut call left stand.
 pub const BEFORE: usize = 36000;
 
 pub const OTHER: usize = 72000;
 
-pub const CUT: usize = 108000;
+pub const LEFT: usize = 108000;
 
 // n bytes from one part to another.
 pub fn copy(area: &mut [u8], from: usize, to: usize, n: usize)

@@ -1,6 +1,6 @@
 // A call cut at every k and powered up, where the power-up is cut at every k too and made again.
 use crate::area::BEFORE;
-use crate::area::CUT;
+use crate::area::LEFT;
 use crate::area::OTHER;
 use crate::area::PART;
 use crate::area::copy;
@@ -111,7 +111,7 @@ fn every_power_up(area: &mut [u8], n: usize) -> Tally
     };
     let mut k = 0;
     while k < 1000 {
-        copy(area, CUT, 0, n);
+        copy(area, LEFT, 0, n);
         let done = power_up_twice(&mut area[0..n], k);
         let as_before = recovered(area, BEFORE, n);
         let as_after = recovered(area, OTHER, n);
@@ -146,10 +146,10 @@ fn one_cut(area: &mut [u8], n: usize, state: Record, r: Request, k: usize, shown
 {
     let reply = cut_call(&mut area[0..n], state, r, k);
     let answer = reply.answer;
-    copy(area, 0, CUT, n);
+    copy(area, 0, LEFT, n);
     let t = every_power_up(area, n);
-    let end = CUT + n;
-    tell_cut(answer, t, &area[CUT..end], shown);
+    let end = LEFT + n;
+    tell_cut(answer, t, &area[LEFT..end], shown);
     copy(area, BEFORE, 0, n);
     answer.status == answers::CUT
 }

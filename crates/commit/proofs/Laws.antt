@@ -11,18 +11,14 @@ use Rattle.boards.specs.Lists.{anyOf}
 use Rattle.boards.specs.Boards.{has, commit-group}
 use Rattle.boards.specs.Rows.{links-of, emptied, Grouped}
 use Rattle.boards.specs.declared.Closure.{Closure}
-use Rattle.protocol.specs.Image.{view, shape-of}
+use Rattle.protocol.specs.Image.{shape-of}
 use Rattle.volatile.specs.Volatile.{engaged, commit-of, acknowledge, opened, start, depends}
-use Rattle.protocol.specs.Calls.{Request, Start, Acknowledge, Test, first, test, refusals, refusal-at, entry-tests}
-use Rattle.protocol.specs.Calls.{context-test, start-tests, acknowledge-tests, plan, perform}
-use Rattle.protocol.specs.declared.Shape.{Shape}
+use Rattle.protocol.specs.Calls.{Start, Acknowledge, Test, first, test, refusals, refusal-at, entry-tests}
+use Rattle.protocol.specs.Calls.{context-test, start-tests, acknowledge-tests}
 use Rattle.volatile.specs.declared.Record.{Record}
 use Rattle.volatile.specs.declared.Commit.{Commit}
-use Rattle.protocol.specs.declared.Reply.{Reply}
 use Rattle.boards.proofs.Basics.{false-not}
 use Rattle.protocol.proofs.Refusals.{entry-goes-on, first-goes-on, first-held, first-passed}
-use Rattle.store.specs.Promise.{Performed}
-use Rattle.decision.specs.Executed.{Executed}
 use Rattle.commit.specs.Begin.{begin-tests}
 
 -- ---- the tests
@@ -60,20 +56,10 @@ module _ (image : List ℕ) (state : Record) (i : ℕ) (context : List ℕ)
     unfolding refusals entry-tests acknowledge-tests
     acknowledge-other e = own _ ∙ first-held 15 _ (false-not e)
 
-    module _ (member : has (engaged state) i ≡ true) where
-      last : refusal-at image state (Acknowledge i context)
-          ≡ first (test (has (commit-of state i .acknowledged) i) 16 ∷ [])
-      unfolding refusals entry-tests acknowledge-tests
-      last = own _ ∙ first-passed 15 _ (ap not member)
-
-      pub acknowledge-again : has (commit-of state i .acknowledged) i ≡ true
-          → refusal-at image state (Acknowledge i context) ≡ 16
-      acknowledge-again f = last ∙ first-held 16 [] f
-
-      pub acknowledge-passes : has (commit-of state i .acknowledged) i ≡ false
-          → refusal-at image state (Acknowledge i context) ≡ 0
-      unfolding first
-      acknowledge-passes f = last ∙ first-passed 16 [] f
+    pub acknowledge-last : has (engaged state) i ≡ true → refusal-at image state (Acknowledge i context)
+        ≡ first (test (has (commit-of state i .acknowledged) i) 16 ∷ [])
+    unfolding refusals entry-tests acknowledge-tests
+    acknowledge-last e = own _ ∙ first-passed 15 _ (ap not e)
 
 -- ---- how the two calls end
 
@@ -101,9 +87,3 @@ unfolding acknowledge commit-of
 acknowledged-group {r} state i {o = o} e f h =
     let same : o .members ≡ commit-of r i .members = ap (λ o. o .members) f ∙ rw e in
     record { members = h .members ∙ same; left = h .left ∙ ap (emptied (r .rows)) same }
-
-pub performed : {s : Shape} {image after : List ℕ} (state : Record) (request : Request) {k : ℕ} {r : Reply}
-    → shape-of image ≡ s → refusal-at image state request ≡ 0
-    → Executed s (plan s (view s image) state request) k image r after → Performed request k image state r after
-unfolding perform
-performed state request same n h = record { reply = h .reply ∙ rw (n, same); image = h .image ∙ rw (n, same) }

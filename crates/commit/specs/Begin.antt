@@ -8,7 +8,7 @@ use Rattle.protocol.specs.declared.Shape.{Shape}
 use Rattle.volatile.specs.declared.Record.{Record}
 use Rattle.entry.specs.Tested.{Entry-passed}
 
--- the tests that both make first: those of every call, then 3 for a context of n bytes
+-- the tests that both make first: those of every board's call, then 3 for a context of n bytes
 abbrev pub begin-tests : List ℕ → Record → ℕ → ℕ → List Test
 begin-tests image r i n = entry-tests image r i ++ context-test (shape-of image) n ∷ []
 

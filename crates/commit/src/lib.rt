@@ -14,7 +14,7 @@ ghost use Rattle.store.specs.Promise.{Performed};
 ghost use Rattle.entry.specs.Tested.{entry-says, Tested};
 ghost use Rattle.commit.specs.Begin.{begin-tests, Offered};
 
-// How both begin: the tests of every call, then 3.
+// How both begin: the first tests of a board's call, then 3.
 fn begin(image: &[u8], state: Record, board: usize, context: &[u8]) -> Entry
     ensures { λ r. ⌜ Tested (first (begin-tests (now (image .entry)) state board (length (now (context .entry)))))
         (Offered (now (image .entry)) state board (length (now (context .entry)))) (entry-says r) ⌝ }

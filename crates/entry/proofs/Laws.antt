@@ -16,7 +16,7 @@ use Rattle.store.proofs.Ends.{turned}
 use Rattle.protocol.proofs.Bridge.{board-small}
 use Rattle.protocol.proofs.Refusals.{first-stops}
 use Rattle.layout.proofs.Laws.{bounded}
-use Rattle.entry.specs.Tested.{Tested, refused, passed, number-of, entry-says, Entry-passed}
+use Rattle.entry.specs.Tested.{Tested, refused, passed, refusal-number, entry-says, Entry-passed}
 use Rattle.entry.specs.declared.Entry.{Entry}
 use Rattle.entry.specs.declared.Entry.the-variants.{Taken}
 
@@ -56,14 +56,14 @@ module _ {T : Type 0} {Known : T → Type 0} {e : ℕ ⊎ T} where
   pub if-passed : {n : ℕ} {t : T} → Tested n Known e → e ≡ inr t → (n ≡ 0) × Known t
   if-passed {n} t q = passing (subst (Tested n Known) q t)
 
-  pub if-refused : {m n j : ℕ} → Tested n Known e → e ≡ inl j → m ≡ number-of e → (n ≡ m) × (m ≢ 0)
+  pub if-refused : {m n j : ℕ} → Tested n Known e → e ≡ inl j → m ≡ refusal-number e → (n ≡ m) × (m ≢ 0)
   if-refused {n = n} t q f =
       let both = refusing (subst (Tested n Known) q t) in
-      let same = sym (f ∙ ap number-of q) in
+      let same = sym (f ∙ ap refusal-number q) in
       (both .0 ∙ same, subst (λ x. x ≢ 0) same (both .1))
 
   -- the first of a call's tests refuse it, whatever follows them
-  pub refused-first : (ts us : List Test) {m j : ℕ} → Tested (first ts) Known e → e ≡ inl j → m ≡ number-of e
+  pub refused-first : (ts us : List Test) {m j : ℕ} → Tested (first ts) Known e → e ≡ inl j → m ≡ refusal-number e
       → (first (ts ++ us) ≡ m) × (m ≢ 0)
   refused-first ts us t q f =
       let both = if-refused t q f in
@@ -71,7 +71,7 @@ module _ {T : Type 0} {Known : T → Type 0} {e : ℕ ⊎ T} where
 
   pub call-refused-first : {image : List ℕ} (state : Record) (request : Request) (ts us : List Test) {k m n : ℕ}
       {next : Record} {reply : Reply} → Tested (first ts) Known e → refusal-at image state request ≡ first (ts ++ us)
-      → e ≡ inl n → m ≡ number-of e → reply ≡ refusal-of m next → next ≡ record-refused state request
+      → e ≡ inl n → m ≡ refusal-number e → reply ≡ refusal-of m next → next ≡ record-refused state request
       → Performed request k image state reply image
   call-refused-first state request ts us t same q f g h =
       let both = refused-first ts us t q f in

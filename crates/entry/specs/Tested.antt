@@ -18,9 +18,9 @@ pub data Tested {T : Type 0} (n : ℕ) (Known : T → Type 0) : ℕ ⊎ T → Ty
   passed : {t : T} → n ≡ 0 → Known t → Tested n Known (inr t)
 
 -- the number of a refusal, 0 for none
-abbrev pub number-of : {T : Type 0} → ℕ ⊎ T → ℕ
-number-of (inl n) = n
-number-of (inr t) = 0
+abbrev pub refusal-number : {T : Type 0} → ℕ ⊎ T → ℕ
+refusal-number (inl n) = n
+refusal-number (inr t) = 0
 
 -- what the cases of Entry say
 abbrev pub entry-says : Entry → ℕ ⊎ Shape

@@ -8,7 +8,7 @@ use protocol::Shape;
 use volatile::Record;
 ghost use mathlib.Core.Path.{_≡_};
 ghost use Rattle.protocol.specs.Calls.{first, entry-tests};
-ghost use Rattle.entry.specs.Tested.{entry-says, number-of, Tested, Entry-passed};
+ghost use Rattle.entry.specs.Tested.{entry-says, refusal-number, Tested, Entry-passed};
 
 // What tests answer: the number of the refusal, or, for a call that they take, the image's shape.
 pub enum Entry {
@@ -19,7 +19,7 @@ pub enum Entry {
 impl Entry {
     // The number of the refusal, 0 for none.
     pub fn number(self) -> u8
-        ensures { λ r. ⌜ r ≡ number-of (entry-says self) ⌝ }
+        ensures { λ r. ⌜ r ≡ refusal-number (entry-says self) ⌝ }
     {
         match self {
             Entry::Refused(n) => n,

@@ -14,7 +14,7 @@ use borrow.Author.Tests.{eq-eqb, ne-eqb, le-leb, lt-leb, leb-true, eqb-true}
 use Rattle.protocol.specs.Calls.{filled}
 use Rattle.boards.specs.Lists.{every, any}
 use Rattle.boards.proofs.Basics.{clash, and-true, true-and, false-and, and-false, or-true, not-true, test-ext}
-use Rattle.boards.proofs.Basics.{if-true, if-false, every-at, some-any, any-some, none-any}
+use Rattle.boards.proofs.Basics.{if-false, every-at, some-any, any-some, none-any}
 use Rattle.text.specs.Fields.{codes, comma, until, past, field, before, after, commas, number-from, number-of, between}
 use Rattle.text.specs.Fields.{digit, pairs, decoded}
 use Rattle.text.specs.Events.{letters, due, listed, well-parted}

@@ -17,6 +17,7 @@ ghost use Prim.Native.Nat.{_-_, _≤_};
 ghost use lib.ListN.{length};
 ghost use Rattle.protocol.specs.Image.{allowed, total};
 ghost use Rattle.protocol.specs.Calls.{formatting};
+ghost use Rattle.layout.specs.Headers.{decision-at};
 ghost use Rattle.store.specs.Budget.{Makes};
 ghost use Rattle.store.specs.Promise.{Formatted};
 ghost use Rattle.boards.specs.Lists.{span};
@@ -39,8 +40,8 @@ fn fill_header(image: &mut [u8], s: Shape, k: Budget) -> Budget
 
 // The bytes from 9 on: zeros.
 fn fill_zeros(image: &mut [u8], k: Budget) -> Budget
-    requires { ⌜ 9 ≤ length (now image) ⌝ }
-    ensures { λ r. ⌜ Makes (span zero-store 9 (length (now (image .entry)) - 9)) k
+    requires { ⌜ decision-at ≤ length (now image) ⌝ }
+    ensures { λ r. ⌜ Makes (span zero-store decision-at (length (now (image .entry)) - decision-at)) k
         (now (image .entry)) r (now (image .exit)) ⌝ }
 {
     let end = image.len();

@@ -1,4 +1,4 @@
--- What a header is read as.
+-- What a header is read as, and where the bytes past the shape stand.
 use Prim.Native.Nat.{ℕ}
 use mathlib.Core.Path.{_≡_}
 use mathlib.Core.Bool.{true, false}
@@ -8,6 +8,16 @@ use Rattle.protocol.specs.Image.{allowed, in-order, shape-of, total}
 use Rattle.protocol.specs.declared.Shape.{Shape}
 use Rattle.layout.specs.declared.Header.{Header}
 use Rattle.layout.specs.declared.Header.the-variants.{InOrder, Disordered}
+
+-- byte 9, the decision; bytes 10 and 11, the deciding group; the tags from byte 12 on
+abbrev pub decision-at : ℕ
+decision-at = 9
+
+abbrev pub group-at : ℕ
+group-at = 10
+
+abbrev pub tags-at : ℕ
+tags-at = 12
 
 -- an image of an allowed shape, which its header names, and of exactly that shape's length
 pub record Shaped (image : List ℕ) (s : Shape) : Type 0 where

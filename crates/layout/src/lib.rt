@@ -8,7 +8,7 @@ ghost use lib.ListN.{length, getD};
 ghost use Rattle.boards.specs.Lists.{every};
 ghost use Rattle.protocol.specs.Image.{Current, Recovery, Tentative, Checkpoint, mark, header, byte};
 ghost use Rattle.protocol.specs.Image.{allowed, exponent, shape-of, base, total};
-ghost use Rattle.layout.specs.Headers.{Header-of};
+ghost use Rattle.layout.specs.Headers.{Header-of, decision-at};
 
 // The mark, hexadecimal 52 53 4D 31: what every header test compares and formatting stores.
 pub const MARK: [u8; 4] = *b"RSM1";
@@ -85,7 +85,7 @@ fn mark_ok(image: &[u8]) -> bool
 
 // The shape that a header names.
 fn shape_of(image: &[u8]) -> Shape
-    requires { ⌜ (9 ≤ length (now image)) × (byte (now image) 5 ≤ 6) ⌝ }
+    requires { ⌜ (decision-at ≤ length (now image)) × (byte (now image) 5 ≤ 6) ⌝ }
     ensures { λ r. ⌜ r ≡ shape-of (now (image .entry)) ⌝ }
 {
     let power = image[5];

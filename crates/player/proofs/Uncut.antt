@@ -1,7 +1,7 @@
 -- No call stores 65,536 bytes or more: without a Z before it no line is cut.
 use Prim.Native.Nat.{ℕ, suc, _+_, _-_, _*_, _/_, _≤_, _<_}
 use mathlib.Core.Path.{_≡_, refl, sym, _∙_, ap}
-use mathlib.Core.Bool.{Bool, true, false, not, cond}
+use mathlib.Core.Bool.{Bool, true, false, cond}
 use mathlib.Core.List.{List, [], _∷_, _++_, map}
 use mathlib.Core.Logic.{_≢_, ⊎-elim}
 use native.Mathlib.Omega.{arith}
@@ -45,13 +45,13 @@ executed-cut k ss image g next bytes nine =
     (λ (e : ltb k (length ss) ≡ false). absurd (omega (arith, sym (ap (λ (b : Bool). cond b 9 0) e) ∙ nine)))
     (decide (ltb k (length ss)))
 
-cut-status : (image : List ℕ) (r : Record) (request : Request) (k : ℕ)
+cut-by-nine : (image : List ℕ) (r : Record) (request : Request) (k : ℕ)
     → perform image r request k .reply .answer .status ≡ 9 →
     let s = shape-of image in
     let m = view s image in
     (first (refusals image s m r request) ≡ 0) × (k < length (plan s m r request .stores))
 unfolding perform refused
-cut-status image r request k nine =
+cut-by-nine image r request k nine =
     let s = shape-of image in
     let m = view s image in
     let n = first (refusals image s m r request) in
@@ -203,7 +203,7 @@ few-stores image r Power-up e =
 -- so a call with that budget is not cut
 none-cut : (image : List ℕ) (r : Record) (request : Request) → perform image r request most .reply .answer .status ≢ 9
 none-cut image r request nine =
-    let cut = cut-status image r request most nine in
+    let cut = cut-by-nine image r request most nine in
     omega (arith, cut .1, few-stores image r request (cut .0))
 
 format-uncut : (s : Shape) (image : List ℕ) (r : Record) → format s image r most .reply .answer .status ≢ 9

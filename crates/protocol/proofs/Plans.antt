@@ -190,7 +190,7 @@ anyOf-append t [] ys = refl
 anyOf-append t (x ∷ xs) ys = ap (λ b. t x || b) (anyOf-append t xs ys) ∙ sym (or-assoc (t x) (anyOf t xs) (anyOf t ys))
 
 -- a put in its area that does not decide
-pub record Quiet (s : Shape) (p : Put) : Type 0 where
+record Quiet (s : Shape) (p : Put) : Type 0 where
   pub valid : Valid s p
   pub calm : decisive p ≡ false
 

@@ -29,7 +29,7 @@ use Rattle.store.proofs.Ends.{ended}
 use Rattle.layout.proofs.Laws.{bounded}
 use Rattle.recovery.specs.Recoverable.{Recoverable, Decides}
 use Rattle.recovery.specs.declared.Decided.{Decided}
-use Rattle.recovery.specs.declared.Decided.the-variants.{Commit, Nothing}
+use Rattle.recovery.specs.declared.Decided.the-variants.{Members, Nothing}
 
 -- the tests in their order, by what each answered
 pub by-tests : {s : Shape} (x : List ℕ) {ordered tags decision : Bool} → in-order 1 x ≡ ordered → shape-of x ≡ s
@@ -45,7 +45,7 @@ module _ (s : Shape) (x : List ℕ) {d : Decided} (h : Decides x d) where
   unfolding bad-decision view base size
   nothing-bad e = rw (ne-eqb (byte x 9) 1 (subst (Decides x) e h))
 
-  pub group-bad : {g : ℕ} {empty : Bool} → d ≡ Commit g → eqb g 0 ≡ empty
+  pub group-bad : {g : ℕ} {empty : Bool} → d ≡ Members g → eqb g 0 ≡ empty
       → empty || beyond (s .boards) g ≡ bad-decision s (view s x)
   unfolding bad-decision stored-group view base size
   group-bad e f = let both = subst (Decides x) e h in rw (both .0, ← both .1, f)
@@ -54,7 +54,7 @@ module _ (s : Shape) (x : List ℕ) {d : Decided} (h : Decides x d) where
   unfolding completed-first view base size
   nothing-first e = rw (ne-eqb (byte x 9) 1 (subst (Decides x) e h)) (puts-none s _ x)
 
-  pub group-first : {g : ℕ} {b r : Budget} {y : List ℕ} → d ≡ Commit g → Puts s (completing s (view s x) g) b x r y
+  pub group-first : {g : ℕ} {b r : Budget} {y : List ℕ} → d ≡ Members g → Puts s (completing s (view s x) g) b x r y
       → Puts s (completed-first s (view s x)) b x r y
   unfolding completed-first stored-group view base size
   group-first e p = let both = subst (Decides x) e h in rw (both .0, ← both .1) p

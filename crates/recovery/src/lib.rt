@@ -22,6 +22,7 @@ ghost use lib.ListN.{length};
 ghost use Rattle.protocol.specs.Image.{allowed, total, view, shape-of};
 ghost use Rattle.protocol.specs.Calls.{Power-up, first, power-tests, bad-tags, bad-decision, completed-first};
 ghost use Rattle.volatile.specs.declared.Record.{Record as State};
+ghost use Rattle.layout.specs.Headers.{tags-at};
 ghost use Rattle.store.specs.Budget.{WellBudget};
 ghost use Rattle.store.specs.Puts.{Puts};
 ghost use Rattle.store.specs.Promise.{Performed};
@@ -30,7 +31,7 @@ ghost use Rattle.recovery.specs.Recoverable.{Recoverable, Decides};
 
 // What an image decides: the commit of this group, or nothing.
 enum Decided {
-    Commit(u16),
+    Members(u16),
     Nothing,
 }
 
@@ -43,7 +44,7 @@ fn word(low: u8, high: u8) -> u16
 
 // The decision and, where it is 1, its group, low byte first.
 fn read_decision(image: &[u8]) -> Decided
-    requires { ⌜ 12 ≤ length (now image) ⌝ }
+    requires { ⌜ tags-at ≤ length (now image) ⌝ }
     ensures { λ r. ⌜ Decides (now (image .entry)) r ⌝ }
 {
     if image[DECISION] != 1 {
@@ -51,7 +52,7 @@ fn read_decision(image: &[u8]) -> Decided
     }
     let low = image[GROUP_LOW];
     let high = image[GROUP_HIGH];
-    Decided::Commit(word(low, high))
+    Decided::Members(word(low, high))
 }
 
 // Whether a tag is above P.
@@ -72,7 +73,7 @@ fn bad_decision(image: &[u8], s: Shape) -> bool
     requires { ⌜ (allowed s ≡ true) × (length (now image) ≡ total s) ⌝ }
     ensures { λ r. ⌜ r ≡ bad-decision s (view s (now (image .entry))) ⌝ }
 {
-    let Decided::Commit(g) = read_decision(image) else {
+    let Decided::Members(g) = read_decision(image) else {
         return false;
     };
     if g == 0 {
@@ -105,7 +106,7 @@ fn complete_first(image: &mut [u8], s: Shape, k: Budget) -> Budget
     ensures { λ r. ⌜ Puts s (completed-first s (view s (now (image .entry)))) k
         (now (image .entry)) r (now (image .exit)) ⌝ }
 {
-    let Decided::Commit(g) = read_decision(image) else {
+    let Decided::Members(g) = read_decision(image) else {
         return k;
     };
     complete(image, s, g, k)

@@ -1,10 +1,10 @@
 -- Storing functions one after the other: each reads the image as the one before left it.
-use Prim.Native.Nat.{ℕ, zero, suc, _+_}
-use mathlib.Core.Path.{_≡_, refl, sym, _∙_, ap, subst}
-use mathlib.Core.Bool.{true, false}
-use mathlib.Core.List.{List, [], _∷_, _++_, map, map-append}
+use Prim.Native.Nat.{ℕ}
+use mathlib.Core.Path.{_≡_, sym, _∙_, ap, subst}
+use mathlib.Core.Bool.{false}
+use mathlib.Core.List.{List, [], _++_, map, map-append}
 use lib.ListN.{length}
-use Rattle.protocol.specs.Image.{Memory, Put, raw, made, after, view, total}
+use Rattle.protocol.specs.Image.{Memory, Put, raw, after, view, total}
 use Rattle.protocol.specs.declared.Shape.{Shape}
 use Rattle.boards.proofs.Basics.{All}
 use Rattle.protocol.proofs.Bridge.{Valid, view-made-fun}

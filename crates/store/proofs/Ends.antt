@@ -1,17 +1,17 @@
 -- How a call ends: from the stores made under its budget to the outcome of the definitions.
 use Prim.Native.Nat.{ℕ, _-_, _≤_}
-use mathlib.Core.Path.{_≡_, refl, _∙_, ap₂}
+use mathlib.Core.Path.{_≡_, refl, sym, _∙_, ap, ap₂}
 use mathlib.Core.Bool.{Bool, true, false}
 use mathlib.Core.List.{List, map}
 use mathlib.Core.Logic.{_≢_}
 use lib.ListN.{take}
 use native.Mathlib.Omega.{arith}
-use borrow.Author.Tests.{ne-eqb}
 use Rattle.boards.specs.Lists.{anyOf}
 use Rattle.protocol.specs.Image.{Store, raw, view, shape-of}
 use Rattle.volatile.specs.Volatile.{off}
 use Rattle.protocol.specs.Calls.{Request, plan, refusal-at, refusal-of, refused, record-refused, executed, decides}
-use Rattle.protocol.specs.Calls.{perform}
+use Rattle.protocol.specs.Calls.{carried-out}
+use Rattle.protocol.proofs.Outcomes.{taken, turned-down}
 use Rattle.protocol.specs.declared.Shape.{Shape}
 use Rattle.volatile.specs.declared.Record.{Record}
 use Rattle.protocol.specs.declared.Reply.{Reply}
@@ -48,23 +48,33 @@ pub left-most : {ss : List Store} {k : ℕ} {b r : Budget} {image after : List �
 unfolding spent
 left-most e m = rw (m .budget, e) (omega arith)
 
--- a call that is taken, of which the stores of its plan were made
+-- a call that is taken
+pub performed : {s : Shape} {image after : List ℕ} (state : Record) (request : Request) {k : ℕ} {reply : Reply}
+    → shape-of image ≡ s → refusal-at image state request ≡ 0 →
+    let o = carried-out s (plan s (view s image) state request) k image in
+    reply ≡ o .reply → after ≡ o .image → Performed request k image state reply after
+performed {image = image} state request {k} e n g h =
+    let o = taken image e state request (rw (← e) n) k in
+    record { reply = g ∙ sym (ap (λ x. x .reply) o); image = h ∙ sym (ap (λ x. x .image) o) }
+
+-- the same, of which the stores of its plan were made
 pub ended : {s : Shape} {image after : List ℕ} (state : Record) (request : Request) {k : ℕ} {left : Budget}
     {decided : Bool} {b : Budget} {group : ℕ} {next : Record} {reply : Reply} → shape-of image ≡ s
-    → refusal-at image state request ≡ 0
-    → let p = plan s (view s image) state request in
+    → refusal-at image state request ≡ 0 →
+    let p = plan s (view s image) state request in
     b ≡ start k → Makes (map (raw s) (p .stores)) b image left after
-    → decided ≡ anyOf decides (take k (map (raw s) (p .stores))) → group ≡ p .group → next ≡ p .next → reply ≡ reply-of k left decided group next
-    → Performed request k image state reply after
-unfolding perform
+    → decided ≡ anyOf decides (take k (map (raw s) (p .stores))) → group ≡ p .group → next ≡ p .next
+    → reply ≡ reply-of k left decided group next → Performed request k image state reply after
 ended {s} {image} state request {k} {left} {decided} e n new m d f g h =
     let p = plan s (view s image) state request in
     let both = made-outcome (p .group) (p .next) (p .bytes) decided (makes-begun new m) d in
-    record { reply = h ∙ ap₂ (reply-of k left decided) f g ∙ rw (n, e) (both .0); image = rw (n, e) (both .1) }
+    performed state request e n (h ∙ ap₂ (reply-of k left decided) f g ∙ both .0) (both .1)
 
 -- a call that is refused
 pub turned : {image : List ℕ} (state : Record) (request : Request) {k n : ℕ} {next : Record} {reply : Reply}
     → refusal-at image state request ≡ n → n ≢ 0 → next ≡ record-refused state request → reply ≡ refusal-of n next
     → Performed request k image state reply image
-unfolding perform refused
-turned state request {n = n} f h e g = record { reply = g ∙ rw (f, ne-eqb n 0 h, e); image = rw (f, ne-eqb n 0 h) }
+unfolding refused
+turned {image} state request {k} f h e g =
+    let o = turned-down image refl state request (λ z. h (sym f ∙ z)) k in
+    record { reply = g ∙ ap₂ refusal-of (sym f) e ∙ sym (ap (λ x. x .reply) o); image = sym (ap (λ x. x .image) o) }

@@ -1,7 +1,7 @@
 -- What the calls promise, as equations with the definitions of the protocol, and how an answer comes of a budget.
 use Prim.Native.Nat.{ℕ, _-_}
 use mathlib.Core.Path.{_≡_}
-use mathlib.Core.Bool.{Bool, false, cond}
+use mathlib.Core.Bool.{Bool, cond}
 use mathlib.Core.List.{List}
 use Rattle.volatile.specs.Volatile.{off}
 use Rattle.protocol.specs.Calls.{Request, perform, filled, format}

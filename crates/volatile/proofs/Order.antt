@@ -8,7 +8,7 @@ use lib.Dec.{eqb, leb}
 use lib.ListN.{getD}
 use native.Mathlib.Omega.{arith}
 use borrow.Author.Tests.{eq-eqb, ne-eqb, eqb-true, leb-true, leb-false}
-use Rattle.boards.specs.Lists.{for, every}
+use Rattle.boards.specs.Lists.{for}
 use Rattle.boards.specs.Boards.{has, mask, setOf, with-board, meets, within, beyond, Links, unlinked, link, unlink}
 use Rattle.boards.specs.Rows.{links-of, rows-of, emptied}
 use Rattle.boards.proofs.Basics.{decide, clash, or-false, false-or, and-false, false-and}

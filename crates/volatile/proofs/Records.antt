@@ -1,11 +1,11 @@
 -- The record by its parts, and the dependences that its methods leave.
 use Prim.Native.Nat.{ℕ, _<_}
-use mathlib.Core.Path.{_≡_, refl, ap}
-use mathlib.Core.Bool.{Bool, false}
+use mathlib.Core.Path.{_≡_}
+use mathlib.Core.Bool.{Bool}
 use mathlib.Core.List.{List}
 use Rattle.boards.specs.Lists.{for}
 use Rattle.boards.specs.Boards.{has, mask, unlinked, link, unlink}
-use Rattle.boards.specs.Rows.{links-of, rows-of}
+use Rattle.boards.specs.Rows.{rows-of}
 use Rattle.boards.proofs.Groups.{Bounded, links-ext, links-rows, links-emptied, link-bounded, unlinked-bounded}
 use Rattle.volatile.specs.Volatile.{fresh, depends, depend, clear}
 use Rattle.volatile.specs.declared.Record.{Record}

@@ -1,5 +1,6 @@
 -- `bind` meets its contract: nothing for no writer and for the board itself, else one link or one each way.
-use mathlib.Core.Path.{_∙_, ap}
+use Prim.Native.Nat.{suc, _<_}
+use mathlib.Core.Path.{_≡_, _∙_, ap}
 use native.Mathlib.Omega.{arith}
 use Rattle.boards.specs.Boards.{tag-of}
 use Rattle.protocol.specs.Accesses.{bind-boards}
@@ -10,56 +11,54 @@ use Rattle.access.proofs.bind.Tie as tie
 
 returns : tie.Need-returns
 returns c =
-    let named = c .before .before in
-    let args = named .before .args in
-    bind-none (args .how) (args .state) (args .i) (named .writer-of .ensures ∙ ap tag-of (c .enum-told .given .1))
+    let args = c .before .before .before .args in
+    bind-none (args .how) (args .state) (args .i)
+    (c .before .before .writer-of .ensures ∙ ap tag-of (c .enum-told .given .1))
+
+-- the tag names this board
+named : (c : tie.After-j) → c .before .before .before .args .tag ≡ suc (c .j .given .0 .0)
+named c = c .before .before .writer-of .ensures ∙ ap tag-of (c .j .given .1)
+
+-- both boards are below 16
+both-small : (c : tie.After-j) → (c .before .before .before .args .i < 16) × (c .j .given .0 .0 < 16)
+both-small c =
+    let pre = c .before .before .before .pre in
+    (omega (arith, pre), omega (arith, pre, named c))
 
 returns-2 : tie.Need-returns-2
 returns-2 c =
     let opened = c .before .before in
-    let named = opened .before .before in
-    let args = named .before .args in
-    bind-own (args .how) (args .state) (args .i) _ (named .writer-of .ensures ∙ ap tag-of (opened .j .given .1))
-    (c .if1 .taken)
+    let args = opened .before .before .before .args in
+    bind-own (args .how) (args .state) (args .i) _ (named opened) (c .if1 .taken)
 
 depend-requires : tie.Need-depend-requires
-depend-requires c κs =
-    let opened = c .before .before in
-    let named = opened .before .before in
-    let tag = named .writer-of .ensures ∙ ap tag-of (opened .j .given .1) in
-    (omega (arith, named .before .pre, tag), omega (arith, named .before .pre, tag))
+depend-requires c κs = let both = both-small (c .before .before) in (omega (arith, both), omega (arith, both))
 
 depend-requires-2 : tie.Need-depend-requires-2
 depend-requires-2 c κs =
-    let opened = c .before .before .before .before .before in
-    let named = opened .before .before in
-    let tag = named .writer-of .ensures ∙ ap tag-of (opened .j .given .1) in
-    (omega (arith, named .before .pre, tag), omega (arith, named .before .pre, tag))
+    let both = both-small (c .before .before .before .before .before) in
+    (omega (arith, both), omega (arith, both))
 
 returns-3 : tie.Need-returns-3
 unfolding bind-boards
 returns-3 c =
     let once = c .before .before in
     let opened = once .before .before .before in
-    let named = opened .before .before in
-    let args = named .before .args in
-    let tag = named .writer-of .ensures ∙ ap tag-of (opened .j .given .1) in
+    let args = opened .before .before .before .args in
     once .depend .ensures
     ∙ rw (c .enum-told2 .given .1)
-    (bind-other _ (args .state) (args .i) _ tag (once .before .if1 .left))
+    (bind-other _ (args .state) (args .i) _ (named opened) (once .before .if1 .left))
 
 returns-4 : tie.Need-returns-4
 unfolding bind-boards
 returns-4 c =
     let once = c .before .before .before in
     let opened = once .before .before .before in
-    let named = opened .before .before in
-    let args = named .before .args in
-    let tag = named .writer-of .ensures ∙ ap tag-of (opened .j .given .1) in
+    let args = opened .before .before .before .args in
     c .depend2 .ensures
     ∙ ap (λ r. depend r (opened .j .given .0 .0) (args .i)) (once .depend .ensures)
     ∙ rw (c .before .enum-told3 .given .1)
-    (bind-other _ (args .state) (args .i) _ tag (once .before .if1 .left))
+    (bind-other _ (args .state) (args .i) _ (named opened) (once .before .if1 .left))
 
 pub bind-spec : {M : Type 1} → statement M
 bind-spec =

@@ -1,11 +1,12 @@
 -- `write` meets its contract: refused with nothing changed, or the stores of its plan as far as the budget goes.
-use mathlib.Core.Path.{refl, ap}
+use mathlib.Core.Path.{_≡_, refl, ap}
 use native.Mathlib.Omega.{arith}
 use denote.Ref.{now}
-use Rattle.protocol.specs.Calls.{Write, record-refused}
+use lib.ListN.{length}
+use Rattle.protocol.specs.Calls.{Write, refusal-at, record-refused}
 use Rattle.store.proofs.Ends.{left-most, turned}
 use Rattle.entry.proofs.Laws.{small, if-refused}
-use Rattle.admission.specs.Places.{admission-says}
+use Rattle.admission.specs.Places.{admission-says, Placed}
 use Rattle.admission.proofs.Tests.{if-admitted}
 use Rattle.access.proofs.Answers.{within, write-done}
 use Rattle.access.proofs.write.Statement.{statement}
@@ -22,23 +23,24 @@ returns c =
     turned (args .state) (Write (args .board) (args .cell) (now (args .bytes))) (told .0) (told .1) refl
     (c .refusal .ensures)
 
+-- what is known once the tests are passed
+known : (c : tie.After-admission) →
+    let args = c .before .before .before .before .before .before .args in
+    let n = length (now (args .bytes)) in
+    (refusal-at (now (args .image)) (args .state) (Write (args .board) (args .cell) (now (args .bytes))) ≡ 0)
+    × Placed (now (args .image)) (args .state) (args .board) (args .cell) n n (c .admission .given .0 .0)
+known c = if-admitted (c .before .before .admit-write .ensures) (c .admission .given .1)
+
 cast-i : tie.Need-cast-i
-cast-i c =
-    let opened = c .before in
-    let known = if-admitted (opened .before .before .admit-write .ensures) (opened .admission .given .1) in
-    omega (arith, small (known .1 .entry))
+cast-i c = omega (arith, small (known (c .before) .1 .entry))
 
 bind-requires : tie.Need-bind-requires
-bind-requires c κs =
-    let opened = c .before in
-    let known = if-admitted (opened .before .before .admit-write .ensures) (opened .admission .given .1) .1 in
-    (small (known .entry), within known .tag)
+bind-requires c κs = (small (known (c .before) .1 .entry), within (known (c .before) .1) .tag)
 
 put-bytes-requires : tie.Need-put-bytes-requires
 put-bytes-requires c κs =
-    let opened = c .before .before .before .before in
-    let known = if-admitted (opened .before .before .admit-write .ensures) (opened .admission .given .1) .1 in
-    (within known .block, within known .cells, small (known .entry))
+    let placed = known (c .before .before .before .before) .1 in
+    (within placed .block, within placed .cells, small (placed .entry))
 
 finish-requires : tie.Need-finish-requires
 finish-requires c κs =
@@ -51,10 +53,9 @@ returns-2 c =
     let made = stored .before .before in
     let bound = made .before in
     let opened = bound .before .before in
-    let tested = opened .before .before in
-    let args = tested .before .before .before .before .args in
-    let known = if-admitted (tested .admit-write .ensures) (opened .admission .given .1) in
-    write-done (args .board) (args .cell) (now (args .bytes)) (known .1) (known .0) (bound .bind .ensures)
+    let args = opened .before .before .before .before .before .before .args in
+    let passed = known opened in
+    write-done (args .board) (args .cell) (now (args .bytes)) (passed .1) (passed .0) (bound .bind .ensures)
     (made .new .ensures) (stored .put-bytes .ensures) (c .finish .ensures)
 
 pub write-spec : {M : Type 1} → statement M

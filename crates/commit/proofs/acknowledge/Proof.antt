@@ -1,17 +1,20 @@
 -- `acknowledge` meets its contract: its tests in their order, and then what an acknowledgement stores.
 use mathlib.Core.Path.{_≡_, refl, sym, _∙_, ap}
+use mathlib.Core.List.{[], _∷_}
 use native.Mathlib.Omega.{arith}
 use denote.Ref.{now}
 use lib.ListN.{length}
 use Rattle.boards.specs.Boards.{has}
-use Rattle.protocol.specs.Calls.{Acknowledge, first, refusals, entry-tests, acknowledge-tests, record-refused, plan}
+use Rattle.volatile.specs.Volatile.{engaged}
+use Rattle.protocol.specs.Calls.{Acknowledge, first, test, refusals, refusal-at, entry-tests, acknowledge-tests}
+use Rattle.protocol.specs.Calls.{record-refused, plan}
 use Rattle.boards.proofs.Basics.{not-true, not-false}
-use Rattle.store.proofs.Ends.{turned}
+use Rattle.protocol.proofs.Refusals.{first-held, first-passed}
+use Rattle.store.proofs.Ends.{performed, turned}
 use Rattle.entry.specs.Tested.{entry-says}
 use Rattle.entry.proofs.Laws.{small, if-taken, call-refused-first}
 use Rattle.commit.specs.Begin.{begin-tests, Offered}
-use Rattle.commit.proofs.Laws.{acknowledged-group, performed, acknowledge-other, acknowledge-again}
-use Rattle.commit.proofs.Laws.{acknowledge-passes}
+use Rattle.commit.proofs.Laws.{acknowledged-group, acknowledge-other, acknowledge-last}
 use Rattle.commit.proofs.acknowledge.Statement.{statement}
 use Rattle.commit.proofs.acknowledge.Tie as tie
 
@@ -39,37 +42,48 @@ cast-i c = omega (arith, small (known (c .before) .1 .entry))
 has-requires : tie.Need-has-requires
 has-requires c κs = small (known (c .before .before) .1 .entry)
 
+-- whether the board is a member, as the code found it
+member : (c : tie.After-has) →
+    let args = c .before .before .before .before .before .before .before .before .before .args in
+    has (engaged (args .state)) (args .board) ≡ c .has .result
+member c =
+    let board = c .before .before .before .before .before .before .before .before .before .args .board in
+    sym (c .has .ensures ∙ ap (λ g. has g board) (c .before .engaged .ensures))
+
 returns-2 : tie.Need-returns-2
 unfolding record-refused
 returns-2 c =
     let asked = c .before .before in
     let opened = asked .before .before .before in
-    let tested = opened .before .before in
-    let args = tested .before .before .before .before .args in
-    let passed = known opened in
-    let member = asked .has .ensures ∙ ap (λ g. has g (args .board)) (asked .before .engaged .ensures) in
-    let other = acknowledge-other _ _ _ _ (passed .0) (sym member ∙ not-true _ (c .before .if1 .taken)) in
+    let args = opened .before .before .before .before .before .before .args in
+    let other = acknowledge-other _ _ _ _ (known opened .0) (member asked ∙ not-true _ (c .before .if1 .taken)) in
     turned (args .state) (Acknowledge (args .board) (now (args .context))) other (λ z. omega arith) refl
     (c .refusal2 .ensures)
 
 has-requires-2 : tie.Need-has-requires-2
 has-requires-2 c κs = small (known (c .before .before .before .before .before) .1 .entry)
 
+-- all tests but 16 are passed: what the code found decides
+last : (c : tie.After-has2) →
+    let opened = c .before .before .before .before .before .before in
+    let args = opened .before .before .before .before .before .before .args in
+    refusal-at (now (args .image)) (args .state) (Acknowledge (args .board) (now (args .context)))
+    ≡ first (test (c .has2 .result) 16 ∷ [])
+last c =
+    let joined = c .before .before in
+    let opened = joined .before .before .before .before in
+    let board = opened .before .before .before .before .before .before .args .board in
+    let twice = c .has2 .ensures ∙ ap (λ o. has (o .acknowledged) board) (c .before .commit-of .ensures) in
+    acknowledge-last _ _ _ _ (known opened .0) (member (joined .before) ∙ not-false _ (joined .if1 .left))
+    ∙ ap (λ b. first (test b 16 ∷ [])) (sym twice)
+
 returns-3 : tie.Need-returns-3
 unfolding record-refused
 returns-3 c =
     let again = c .before .before in
-    let joined = again .before .before in
-    let asked = joined .before in
-    let opened = asked .before .before .before in
-    let tested = opened .before .before in
-    let args = tested .before .before .before .before .args in
-    let passed = known opened in
-    let member = asked .has .ensures ∙ ap (λ g. has g (args .board)) (asked .before .engaged .ensures) in
-    let twice = again .has2 .ensures ∙ ap (λ o. has (o .acknowledged) (args .board))
-    (again .before .commit-of .ensures) in
-    let number = acknowledge-again _ _ _ _ (passed .0) (sym member ∙ not-false _ (joined .if1 .left))
-    (sym twice ∙ c .before .if2 .taken) in
+    let opened = again .before .before .before .before .before .before in
+    let args = opened .before .before .before .before .before .before .args in
+    let number = last again ∙ first-held 16 [] (c .before .if2 .taken) in
     turned (args .state) (Acknowledge (args .board) (now (args .context))) number (λ z. omega arith) refl
     (c .refusal3 .ensures)
 
@@ -93,24 +107,17 @@ same-length-4 : tie.Need-same-length-4
 same-length-4 c = c .before .image .given
 
 returns-4 : tie.Need-returns-4
-unfolding plan
+unfolding plan first
 returns-4 c =
     let gave = c .before .before in
     let noted = gave .before .before .before .before in
     let again = noted .before .before in
-    let joined = again .before .before in
-    let asked = joined .before in
-    let opened = asked .before .before .before in
-    let tested = opened .before .before in
-    let args = tested .before .before .before .before .args in
-    let passed = known opened in
-    let member = asked .has .ensures ∙ ap (λ g. has g (args .board)) (asked .before .engaged .ensures) in
-    let twice = again .has2 .ensures ∙ ap (λ o. has (o .acknowledged) (args .board))
-    (again .before .commit-of .ensures) in
-    let number = acknowledge-passes _ _ _ _ (passed .0) (sym member ∙ not-false _ (joined .if1 .left))
-    (sym twice ∙ noted .before .if2 .left) in
-    performed (args .state) (Acknowledge (args .board) (now (args .context))) (passed .1 .entry .shaped .shape) number
-    (gave .give .ensures _ (noted .acknowledge .ensures))
+    let opened = again .before .before .before .before .before .before in
+    let args = opened .before .before .before .before .before .before .args in
+    let number = last again ∙ first-passed 16 [] (noted .before .if2 .left) in
+    let done = gave .give .ensures _ (noted .acknowledge .ensures) in
+    performed (args .state) (Acknowledge (args .board) (now (args .context))) (known opened .1 .entry .shaped .shape)
+    number (done .reply) (done .image)
 
 pub acknowledge-spec : {M : Type 1} → statement M
 acknowledge-spec =

@@ -2,7 +2,7 @@
 use mathlib.Core.Path.{sym, ap, subst}
 use native.Mathlib.Omega.{arith}
 use Rattle.protocol.specs.Calls.{entry-tests}
-use Rattle.entry.specs.Tested.{Tested, entry-says, number-of, refused, passed}
+use Rattle.entry.specs.Tested.{Tested, entry-says, refusal-number, refused, passed}
 use Rattle.entry.proofs.Laws.{if-taken, refused-first}
 use Rattle.commit.proofs.Laws.{begin-long, begin-full}
 use Rattle.commit.proofs.begin.Statement.{statement}
@@ -11,7 +11,7 @@ use Rattle.commit.proofs.begin.Tie as tie
 returns : tie.Need-returns
 returns c =
     let q = ap entry-says (c .enum-told .given .1) in
-    let stop = refused-first (entry-tests _ _ _) _ (c .before .before .enter .ensures) q (sym (ap number-of q)) in
+    let stop = refused-first (entry-tests _ _ _) _ (c .before .before .enter .ensures) q (sym (ap refusal-number q)) in
     subst (Tested _ _) (sym q) (refused (stop .0) (stop .1))
 
 returns-2 : tie.Need-returns-2

@@ -4,11 +4,11 @@ use native.Mathlib.Omega.{arith}
 use denote.Ref.{now}
 use lib.ListN.{length}
 use Rattle.protocol.specs.Calls.{Start, first, refusals, entry-tests, start-tests, record-refused, plan}
-use Rattle.store.proofs.Ends.{turned}
+use Rattle.store.proofs.Ends.{performed, turned}
 use Rattle.entry.specs.Tested.{entry-says}
 use Rattle.entry.proofs.Laws.{small, if-taken, call-refused-first}
 use Rattle.commit.specs.Begin.{begin-tests, Offered}
-use Rattle.commit.proofs.Laws.{started, started-group, performed, start-open, start-passes}
+use Rattle.commit.proofs.Laws.{started, started-group, start-open, start-passes}
 use Rattle.commit.proofs.start.Statement.{statement}
 use Rattle.commit.proofs.start.Tie as tie
 
@@ -78,10 +78,11 @@ returns-3 c =
     let tested = opened .before .before in
     let args = tested .before .before .before .before .args in
     let passed = known opened in
+    let done = gave .give .ensures _
+    (started (args .state) (args .board) (opened-commit .start .ensures) (grouped .commit-closure .ensures .members)) in
     performed (args .state) (Start (args .board) (now (args .context))) (passed .1 .entry .shaped .shape)
     (start-passes _ _ _ _ (passed .0) (omega (arith, free .before .engaged .ensures, free .if1 .left)))
-    (gave .give .ensures _
-    (started (args .state) (args .board) (opened-commit .start .ensures) (grouped .commit-closure .ensures .members)))
+    (done .reply) (done .image)
 
 pub start-spec : {M : Type 1} → statement M
 start-spec =

@@ -1,8 +1,6 @@
 -- `group` meets its contract: n passes are made, and one that adds nothing ends them.
-use Prim.Native.Nat.{ℕ, _≤_, _-_}
+use Prim.Native.Nat.{_≤_, _-_}
 use mathlib.Core.Path.{_≡_, _∙_, sym, ap}
-use mathlib.Core.Bool.{Bool}
-use mathlib.Core.List.{List}
 use native.Mathlib.Numerals.{add-one}
 use native.Mathlib.Omega.{arith}
 use Rattle.boards.specs.Boards.{single, Links, pass, passes, commit-group}

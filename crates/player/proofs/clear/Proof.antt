@@ -3,7 +3,7 @@ use native.Mathlib.Numerals.{add-one}
 use lib.ListN.{length, drop, set, replicate, length-set}
 use mathlib.Core.List.{List, _++_}
 use Prim.Native.Nat.{ℕ, _-_, _≤_}
-use mathlib.Core.Path.{_≡_, refl, sym, _∙_, ap}
+use mathlib.Core.Path.{_≡_, refl, _∙_, ap}
 use borrow.Author.Needs.{needs}
 use native.Mathlib.Omega.{arith}
 use Rattle.turns.proofs.Laws.{zeros-more, zeros-all}

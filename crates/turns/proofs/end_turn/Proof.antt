@@ -2,7 +2,7 @@
 use denote.Ref.{now}
 use Rattle.protocol.specs.Calls.{Outcome}
 use lib.ListN.{take}
-use mathlib.Core.Path.{refl, _∙_}
+use mathlib.Core.Path.{refl}
 use Rattle.turns.proofs.Turning.{cut-turn, done-turn}
 use borrow.Author.Needs.{needs}
 use Rattle.turns.proofs.end_turn.Statement.{statement}

@@ -1,6 +1,4 @@
 -- `power_turn` meets its contract.
-use mathlib.Core.Path.{sym, _∙_, ap}
-use lib.ListN.{length}
 use Rattle.turns.proofs.Turning.{powered}
 use native.Mathlib.Omega.{arith}
 use borrow.Author.Needs.{needs}

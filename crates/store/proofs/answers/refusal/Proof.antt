@@ -1,6 +1,5 @@
 -- `refusal` answers its number, and zero and no for the rest.
 use mathlib.Core.Path.{refl}
-use Rattle.protocol.specs.Calls.{refusal-of}
 use Rattle.store.proofs.answers.refusal.Statement.{statement}
 use Rattle.store.proofs.answers.refusal.Tie as tie
 
