@@ -11,6 +11,7 @@ use store::copy_at;
 use store::store;
 ghost use mathlib.Core.Path.{_≡_};
 ghost use mathlib.Core.Bool.{true, cond};
+ghost use mathlib.Core.Logic.{_⊎_, _≢_};
 ghost use Prim.Native.Nat.{ℕ, _+_, _≤_, _<_};
 ghost use lib.ListN.{length, getD};
 ghost use Rattle.boards.specs.Lists.{for};
@@ -55,7 +56,8 @@ fn copy_block(image: &mut [u8], s: Shape, g: u16, save: bool, b: usize, k: Budge
 fn next_tagged(image: &[u8], s: Shape, b: usize) -> usize
     requires { ⌜ (allowed s ≡ true) × (length (now image) ≡ total s) × (b ≤ s .blocks) ⌝ }
     ensures { λ r. ⌜ (b ≤ r) × (r ≤ s .blocks)
-        × ((j : ℕ) → b ≤ j → j < r → getD (now (image .entry)) (tags-at + j) 0 ≡ 0) ⌝ }
+        × ((j : ℕ) → b ≤ j → j < r → getD (now (image .entry)) (tags-at + j) 0 ≡ 0)
+        × ((r ≡ s .blocks) ⊎ (getD (now (image .entry)) (tags-at + r) 0 ≢ 0)) ⌝ }
 {
     let mut i = b;
     while i < s.blocks {

@@ -1,19 +1,19 @@
--- `next_tagged` meets its contract: no block passed so far has a writer.
+-- `next_tagged` meets its contract: no block passed so far has a writer, and the one where it stops has.
 use Prim.Native.Nat.{ℕ, _+_, _-_, _≤_, _<_}
 use mathlib.Core.Path.{_≡_, _∙_, ap}
-use mathlib.Core.Logic.{⊎-elim}
+use mathlib.Core.Logic.{inl, inr, ⊎-elim}
 use native.Mathlib.Omega.{arith}
-use borrow.Author.Needs.{needs}
 use lib.ListN.{getD}
 use Rattle.protocol.specs.Image.{total}
 use Rattle.boards.proofs.Basics.{below-suc}
+use Rattle.layout.specs.Headers.{tags-at}
 use Rattle.layout.proofs.Laws.{bounded}
 use Rattle.blocks.proofs.next_tagged.Statement.{statement}
 use Rattle.blocks.proofs.next_tagged.Tie as tie
 
 abbrev Inv-loop : tie.InvT-loop
 Inv-loop image s b i₀ i =
-    (b ≤ i) × (i ≤ s .blocks) × ((j : ℕ) → b ≤ j → j < i → getD image (12 + j) 0 ≡ 0)
+    (b ≤ i) × (i ≤ s .blocks) × ((j : ℕ) → b ≤ j → j < i → getD image (tags-at + j) 0 ≡ 0)
 
 abbrev μ-loop : tie.MeasureT-loop
 μ-loop image s b i₀ i = s .blocks - i
@@ -29,7 +29,7 @@ unfolding total
 shared-slice-read-if2 c = omega arith
 
 returns : tie.Need-returns Inv-loop μ-loop
-returns c = search needs
+returns c = let inv = c .before .before .before .before .loop .inv in (inv .0, inv .1, inv .2, inr (c .if2 .taken))
 
 add-i : tie.Need-add-i Inv-loop μ-loop
 add-i c = omega arith
@@ -47,12 +47,12 @@ loop-again c =
       λ j h l.
           ⊎-elim
           (λ (m : j < at .i). at .inv .2 j h m)
-          (λ (e : j ≡ at .i). ap (λ (n : ℕ). getD image (12 + n) 0) e ∙ c .if2 .left)
+          (λ (e : j ≡ at .i). ap (λ (n : ℕ). getD image (tags-at + n) 0) e ∙ c .if2 .left)
           (below-suc j (at .i) (omega arith)),
     )
 
 returns-2 : tie.Need-returns-2 Inv-loop μ-loop
-returns-2 c = search needs
+returns-2 c = let inv = c .before .before .loop .inv in (inv .0, inv .1, inv .2, inl (omega arith))
 
 pub next-tagged-spec : {M : Type 1} → statement M
 next-tagged-spec =
