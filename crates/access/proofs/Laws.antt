@@ -43,10 +43,12 @@ unfolding filled-from
 fill-more image buffer at n l =
     let front = span (λ x. getD image x 0) at n in
     rw (drop-cons buffer n 0 l, add-one, span-more)
-    (set-at front (getD buffer n 0) (drop (suc n) buffer) (getD image (at + n) 0) n (length-span (λ x. getD image x 0) at n)
+    (set-at front (getD buffer n 0) (drop (suc n) buffer) (getD image (at + n) 0) n
+    (length-span (λ x. getD image x 0) at n)
     ∙ sym (append-snoc front (getD image (at + n) 0) (drop (suc n) buffer)))
 
-pub fill-length : (image buffer : List ℕ) (at n : ℕ) → n ≤ length buffer → length (filled-from image at n buffer) ≡ length buffer
+pub fill-length : (image buffer : List ℕ) (at n : ℕ) → n ≤ length buffer
+    → length (filled-from image at n buffer) ≡ length buffer
 unfolding filled-from
 fill-length image buffer at n l =
     length-append (span (λ x. getD image x 0) at n) (drop n buffer)

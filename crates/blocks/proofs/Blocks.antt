@@ -34,7 +34,8 @@ block-fits s b l = row-fits (s .size) (s .blocks) b l
 pub context-fits : (s : Shape) (i : ℕ) → i < s .boards → i * s .context + s .context ≤ s .boards * s .context
 context-fits s i l = row-fits (s .context) (s .boards) i l
 
-bank-at : (s : Shape) (save : Bool) (i : ℕ) → base s Current + i + cond save 0 (s .blocks * s .size) ≡ base s (bank save) + i
+bank-at : (s : Shape) (save : Bool) (i : ℕ)
+    → base s Current + i + cond save 0 (s .blocks * s .size) ≡ base s (bank save) + i
 unfolding bank base
 bank-at s true i = omega arith
 bank-at s false i = omega arith
@@ -44,7 +45,8 @@ unfolding bank
 bank-of true = current
 bank-of false = recovery
 
-pub banks-apart : (n c : ℕ) (save : Bool) → n ≤ c → (cond save 0 c + n ≤ cond (not save) 0 c) ⊎ (cond (not save) 0 c + n ≤ cond save 0 c)
+pub banks-apart : (n c : ℕ) (save : Bool) → n ≤ c
+    → (cond save 0 c + n ≤ cond (not save) 0 c) ⊎ (cond (not save) 0 c + n ≤ cond save 0 c)
 banks-apart n c true l = inl (omega arith)
 banks-apart n c false l = inr (omega arith)
 
@@ -55,18 +57,21 @@ module _ {s : Shape} {x : List ℕ} (g : ℕ) (save : Bool) (b : ℕ) (l : b < s
 
   -- the copier is handed the part of the image from `at` on
   pub block-done : {r r′ : Budget} {y z : List ℕ} {at from to : ℕ} → tagged-in g (getD x (12 + b) 0) ≡ true
-      → at ≡ base s Current + b * s .size → from ≡ cond save 0 (s .blocks * s .size) → to ≡ cond (not save) 0 (s .blocks * s .size)
+      → at ≡ base s Current + b * s .size → from ≡ cond save 0 (s .blocks * s .size)
+      → to ≡ cond (not save) 0 (s .blocks * s .size)
       → Makes (shifted at (copy-stores (drop at x) from to (s .size))) k x r y
       → Makes (one (12 + b) 0 ∷ []) r y r′ z → Puts s (block-puts s (view s x) g save b) k x r′ z
   unfolding block-copied raw base
   block-done {r} {r′} {y} {z} {at} {from} {to} e p q t m n =
       let i = b * s .size in
       let fits : i + s .size ≤ size s (bank save) = rw (bank-size s (bank-of save)) (block-fits s b l) in
-      let same = copying-lent s x (bank save) (bank (not save)) i (s .size) at from to fits (rw (p, q) (bank-at s save i)) (rw (p, t) (bank-at s (not save) i)) in
+      let same = copying-lent s x (bank save) (bank (not save)) i (s .size) at from to fits
+      (rw (p, q) (bank-at s save i)) (rw (p, t) (bank-at s (not save) i)) in
       record {
         makes =
             rw (tag-read s x b l, e)
-            (subst (λ ss. Makes ss k x r′ z) (sym (map-append (raw s) (copying (view s x) (bank save) (bank (not save)) i (s .size)) (put Tags b 0 ∷ [])))
+            (subst (λ ss. Makes ss k x r′ z) (sym (map-append (raw s)
+            (copying (view s x) (bank save) (bank (not save)) i (s .size)) (put Tags b 0 ∷ [])))
             (makes-then (subst (λ ss. Makes ss k x r y) (sym same) m) n));
       }
 
@@ -77,16 +82,19 @@ module _ {s : Shape} {x : List ℕ} (g i : ℕ) {k : Budget} where
 
   pub context-done : {r : Budget} {y : List ℕ} {at all : ℕ} → i < s .boards → has g i ≡ true
       → at ≡ base s Tentative + i * s .context → all ≡ s .boards * s .context
-      → Makes (shifted at (copy-stores (drop at x) 0 all (s .context))) k x r y → Puts s (context-saved s (view s x) g i) k x r y
+      → Makes (shifted at (copy-stores (drop at x) 0 all (s .context))) k x r y
+      → Puts s (context-saved s (view s x) g i) k x r y
   unfolding context-saved base size
   context-done {r} {y} {at} {all} l e p q m =
       let i₀ = i * s .context in
-      let same = copying-lent s x Tentative Checkpoint i₀ (s .context) at 0 all (context-fits s i l) (omega arith) (omega arith) in
+      let same = copying-lent s x Tentative Checkpoint i₀ (s .context) at 0 all (context-fits s i l) (omega arith)
+      (omega arith) in
       record { makes = rw e (subst (λ ss. Makes ss k x r y) (sym same) m) }
 
 -- ---- byte 9
 
-pub cleared : (s : Shape) {k r : Budget} {x y : List ℕ} → Makes (one 9 0 ∷ []) k x r y → Puts s (put Decision 0 0 ∷ []) k x r y
+pub cleared : (s : Shape) {k r : Budget} {x y : List ℕ} → Makes (one 9 0 ∷ []) k x r y
+    → Puts s (put Decision 0 0 ∷ []) k x r y
 unfolding raw base
 cleared s m = record { makes = m }
 
@@ -98,7 +106,8 @@ offset-most false c = omega arith
 
 -- the copier's two ranges lie in the image and apart
 pub ranges-fit : (s : Shape) (save : Bool) (b : ℕ) → b < s .blocks → (n at from to : ℕ) → n ≡ total s
-    → at ≡ base s Current + b * s .size → from ≡ cond save 0 (s .blocks * s .size) → to ≡ cond (not save) 0 (s .blocks * s .size)
+    → at ≡ base s Current + b * s .size → from ≡ cond save 0 (s .blocks * s .size)
+    → to ≡ cond (not save) 0 (s .blocks * s .size)
     → ((at + from + s .size ≤ n) × (at + to + s .size ≤ n)) × ((from + s .size ≤ to) ⊎ (to + s .size ≤ from))
 unfolding base total
 ranges-fit s save b l n at from to e p q t =
@@ -125,7 +134,8 @@ module _ {s : Shape} {x : List ℕ} (long : length x ≡ total s) {k r : Budget}
   -- blocks without a writer have no round
   skipped : (g : ℕ) (save : Bool) (b d : ℕ) → b + d ≤ s .blocks
       → ((j : ℕ) → b ≤ j → j < b + d → getD y (12 + j) 0 ≡ 0)
-      → Puts s (for b (block-puts s (view s x) g save)) k x r y → Puts s (for (b + d) (block-puts s (view s x) g save)) k x r y
+      → Puts s (for b (block-puts s (view s x) g save)) k x r y
+      → Puts s (for (b + d) (block-puts s (view s x) g save)) k x r y
   skipped g save b zero l none p = rw add-zero p
   skipped g save b (suc d) l none p =
       let before = skipped g save b d (omega arith) (λ j h i. none j h (omega arith)) p in
@@ -135,7 +145,8 @@ module _ {s : Shape} {x : List ℕ} (long : length x ≡ total s) {k r : Budget}
 
   pub blocks-skip : (g : ℕ) (save : Bool) (b c : ℕ) → b ≤ c → c ≤ s .blocks
       → ((j : ℕ) → b ≤ j → j < c → getD y (12 + j) 0 ≡ 0)
-      → Puts s (for b (block-puts s (view s x) g save)) k x r y → Puts s (for c (block-puts s (view s x) g save)) k x r y
+      → Puts s (for b (block-puts s (view s x) g save)) k x r y
+      → Puts s (for c (block-puts s (view s x) g save)) k x r y
   blocks-skip g save b c l m none p =
       let all : b + (c - b) ≡ c = omega arith in
       subst (λ (n : ℕ). Puts s (for n (block-puts s (view s x) g save)) k x r y) all

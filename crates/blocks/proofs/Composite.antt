@@ -22,7 +22,8 @@ use Rattle.store.proofs.Chains.{then-puts, then-reads}
 
 -- the contexts are read off the image after the blocks, which is the same as before them
 contexts-later : (s : Shape) (m : Memory) (chosen : ℕ → Bool) (g : ℕ)
-    → for (s .boards) (context-saved s (after (blocks-copied s m Current Recovery chosen) m) g) ≡ for (s .boards) (context-saved s m g)
+    → for (s .boards) (context-saved s (after (blocks-copied s m Current Recovery chosen) m) g)
+    ≡ for (s .boards) (context-saved s m g)
 unfolding rank
 contexts-later s m chosen g =
     contexts-cong s g _ m

@@ -24,7 +24,8 @@ block-reads : (s : Shape) (m : Memory) (from to : Area) (chosen : ℕ → Bool) 
 unfolding block-copied copying round-of
 block-reads s m from to chosen b = refl
 
-module _ (s : Shape) (m : Memory) (from to : Area) (chosen : ℕ → Bool) (apart : rank from ≢ rank to) (banked : rank from ≢ rank Tags)
+module _ (s : Shape) (m : Memory) (from to : Area) (chosen : ℕ → Bool) (apart : rank from ≢ rank to)
+    (banked : rank from ≢ rank Tags)
     (bank : rank to ≢ rank Tags)
   where
     earlier : ℕ → Memory
@@ -40,10 +41,12 @@ module _ (s : Shape) (m : Memory) (from to : Area) (chosen : ℕ → Bool) (apar
     unfolding earlier
     from-still b i =
         untouched (all-for b (block-copied s m from to chosen) (λ c l.
-        all-block s m from to chosen c (λ e. ((λ x v d. else-area (λ q. apart (sym q))), else-area (λ q. banked (sym q)))))) m
+        all-block s m from to chosen c
+        (λ e. ((λ x v d. else-area (λ q. apart (sym q))), else-area (λ q. banked (sym q)))))) m
 
     pub block-still : (b : ℕ)
-        → block-copied s (after (for b (block-copied s m from to chosen)) m) from to chosen b ≡ block-copied s m from to chosen b
+        → block-copied s (after (for b (block-copied s m from to chosen)) m) from to chosen b
+        ≡ block-copied s m from to chosen b
     unfolding earlier
     block-still b =
         block-reads s (earlier b) from to chosen b
@@ -56,4 +59,5 @@ pub context-still : (s : Shape) (m : Memory) (g i : ℕ)
 unfolding context-saved copying rank
 context-still s m g i =
     ap (λ (f : ℕ → ℕ). cond (has g i) (placing Checkpoint (i * s .context) (span f (i * s .context) (s .context))) [])
-    (fun-ext (λ j. untouched (all-for i (context-saved s m g) (λ c l. all-context s m g c (λ e x v d. else-area (λ q. omega arith)))) m))
+    (fun-ext (λ j. untouched
+    (all-for i (context-saved s m g) (λ c l. all-context s m g c (λ e x v d. else-area (λ q. omega arith)))) m))

@@ -18,8 +18,10 @@ use Rattle.store.specs.Puts.{Puts}
 use Rattle.blocks.proofs.Laws.{block-still, context-still}
 use Rattle.store.proofs.Chains.{then-reads}
 
-module _ {s : Shape} {x : List ℕ} (long : length x ≡ total s) {b r r′ : Budget} {y z : List ℕ} (well : WellBudget b) where
-  pub block-round : (from to : Area) (chosen : ℕ → Bool) → Bank to → rank from ≢ rank to → rank from ≢ rank Tags → (n : ℕ) → n < s .blocks
+module _ {s : Shape} {x : List ℕ} (long : length x ≡ total s) {b r r′ : Budget} {y z : List ℕ}
+    (well : WellBudget b) where
+  pub block-round : (from to : Area) (chosen : ℕ → Bool) → Bank to → rank from ≢ rank to → rank from ≢ rank Tags
+      → (n : ℕ) → n < s .blocks
       → Puts s (for n (block-copied s (view s x) from to chosen)) b x r y
       → Puts s (block-copied s (view s y) from to chosen n) r y r′ z
       → Puts s (for (suc n) (block-copied s (view s x) from to chosen)) b x r′ z

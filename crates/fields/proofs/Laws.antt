@@ -30,7 +30,8 @@ module _ (s : List ℕ) (i : ℕ) (l : i < length s) where
   unfolding until
   until-stop d e = rw (from, eq-eqb _ _ e)
 
-  pub until-more : (d : ℕ) → (getD s i 0 ≡ d → ⊥) → length (until d (drop i s)) ≡ suc (length (until d (drop (i + 1) s)))
+  pub until-more : (d : ℕ) → (getD s i 0 ≡ d → ⊥)
+      → length (until d (drop i s)) ≡ suc (length (until d (drop (i + 1) s)))
   unfolding until
   until-more d e = rw (from, ne-eqb _ _ e)
 
@@ -167,7 +168,8 @@ zero-comma [] l e f = absurd (omega arith)
 zero-comma (x ∷ []) l e f = absurd (omega arith)
 zero-comma (x ∷ y ∷ s) l e f = rw (e, eq-eqb y 44 f)
 
-pub zero-leading : (s : List ℕ) → 1 < length s → getD s 0 0 ≡ 48 → (getD s 1 0 ≡ 44 → ⊥) → number-of (before s) ≡ Invalid
+pub zero-leading : (s : List ℕ) → 1 < length s → getD s 0 0 ≡ 48 → (getD s 1 0 ≡ 44 → ⊥)
+    → number-of (before s) ≡ Invalid
 unfolding number-of until
 zero-leading [] l e f = absurd (omega arith)
 zero-leading (x ∷ []) l e f = absurd (omega arith)

@@ -42,7 +42,8 @@ past-header s i l = ap (one i) (List·getD-eq-default (header s) 0 {n = i} (omeg
 
 -- byte 0, the header, zeros, byte 0 again
 pub laid-out : (s : Shape) (n : ℕ) {b c d e r : Budget} {v w x y z : List ℕ} → n ≡ total s → 9 ≤ n →
-    Makes (one 0 0 ∷ []) b v c w → Makes (span (header-store s) 1 8) c w d x → Makes (span zero-store 9 (n - 9)) d x e y →
+    Makes (one 0 0 ∷ []) b v c w → Makes (span (header-store s) 1 8) c w d x
+    → Makes (span zero-store 9 (n - 9)) d x e y →
     Makes (one 0 (getD mark 0 0) ∷ []) e y r z → Makes (formatting s) b v r z
 unfolding formatting
 laid-out s n long l m o p q =

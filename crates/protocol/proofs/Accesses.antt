@@ -73,7 +73,8 @@ bind-wider : (how : Binding) (d : Links) (i t a b : ℕ) → d a b ≡ true → 
 unfolding bind-tag
 bind-wider how d i zero a b h = h
 bind-wider how d i (suc j) a b h =
-    ⊎-elim (λ (e : eqb i j ≡ true). rw e h) (λ (e : eqb i j ≡ false). rw e (tie-wider how d i j a b h)) (decide (eqb i j))
+    ⊎-elim (λ (e : eqb i j ≡ true). rw e h) (λ (e : eqb i j ≡ false). rw e (tie-wider how d i j a b h))
+    (decide (eqb i j))
 
 pub binds-wider : (how : ℕ → Binding) (tag : ℕ → ℕ) (d : Links) (i : ℕ) (bs : List ℕ) (a b : ℕ) → d a b ≡ true
     → bind-blocks link how tag d i bs a b ≡ true
@@ -141,7 +142,8 @@ module _ {n : ℕ} {i : ℕ} (small : i < n) where
   unfolding bind-tag bind-boards
   bind-bounded how d zero l h = h
   bind-bounded OneWay d (suc j) l h =
-      ⊎-elim (λ (e : eqb i j ≡ true). rw e h) (λ (e : eqb i j ≡ false). rw e (link-bounded h small l)) (decide (eqb i j))
+      ⊎-elim (λ (e : eqb i j ≡ true). rw e h) (λ (e : eqb i j ≡ false). rw e (link-bounded h small l))
+      (decide (eqb i j))
   bind-bounded TwoWay d (suc j) l h =
       ⊎-elim
       (λ (e : eqb i j ≡ true). rw e h)

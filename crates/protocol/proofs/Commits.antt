@@ -64,7 +64,8 @@ opened-on {s} {m} {r} {l} most h e i k =
       commit =
           subst (λ d. Agrees (s .boards) begun (record { members = commit-group d i; acknowledged = 0 } ∷ l .commits))
           (h .links)
-          (subst (λ cs. Agrees (s .boards) begun (record { members = commit-group (depends r) i; acknowledged = 0 } ∷ cs))
+          (subst (λ cs. Agrees (s .boards) begun
+          (record { members = commit-group (depends r) i; acknowledged = 0 } ∷ cs))
           (sym (none-open (h .commit) e))
           (somebody
           (record {

@@ -327,7 +327,8 @@ module _ (s : Shape) (m : Memory) (g : ℕ) where
       context-away j i x l (λ e f. clash e (subst (λ b. has g b ≡ false) (sym f) h))))) m
 
   pub contexts-saved : (i x : ℕ) → i < s .boards → has g i ≡ true → x < s .context
-      → after (for (s .boards) (context-saved s m g)) m Checkpoint (i * s .context + x) ≡ m Tentative (i * s .context + x)
+      → after (for (s .boards) (context-saved s m g)) m Checkpoint (i * s .context + x)
+      ≡ m Tentative (i * s .context + x)
   unfolding context-saved
   contexts-saved i x h e l =
       round-whole (s .boards) (context-saved s m g) i h Checkpoint _ (λ j n. context-away j i x l (λ d. n)) m

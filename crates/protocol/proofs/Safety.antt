@@ -140,7 +140,8 @@ module _ {s : Shape} (positive : 0 < s .size) {cell : ℕ → ℕ} {context : �
             (p .block b e))
             (λ (e : chosen (m Tags b) ≡ false). p .cell-left a e ∙ h .current a l (sym (p .tag-left b e) ∙ z))
             (decide (chosen (m Tags b)));
-        contexts = λ i x l k. p .other Checkpoint (omega arith) (omega arith) (i * s .context + x) ∙ h .contexts i x l k;
+        contexts = λ i x l k. p .other Checkpoint (omega arith) (omega arith) (i * s .context + x)
+            ∙ h .contexts i x l k;
       }
 
   pub rollback-through : {m : Memory} (chosen : ℕ → Bool) → chosen 0 ≡ false → Idle s cell context m
@@ -337,7 +338,8 @@ module _ (s : Shape) (positive : 0 < s .size) (m : Memory) (g : ℕ) where
               c .current a
               ∙ ⊎-elim
               (λ (e : tagged-in g (m Tags (a / s .size)) ≡ true). h .saving a l e)
-              (λ (e : tagged-in g (m Tags (a / s .size)) ≡ false). h .current a l (sym (c .tag-left (a / s .size) e) ∙ z))
+              (λ (e : tagged-in g (m Tags (a / s .size)) ≡ false). h .current a l
+              (sym (c .tag-left (a / s .size) e) ∙ z))
               (decide (tagged-in g (m Tags (a / s .size))));
           contexts =
               λ i x l k.

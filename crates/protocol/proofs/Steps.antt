@@ -216,7 +216,8 @@ module _ {s : Shape} {m : Memory} {r : Record} {l : Ledger} (h : On s m r l) (mo
     -- a pending write keeps nothing yet
     write-kept : (c : ℕ) → saved (marks (new ∷ l .notes) c) ≡ saved (marks (l .notes) c)
     unfolding marks mark saved new
-    write-kept c = ⊎-elim (λ (e : covers new c ≡ true). rw e) (λ (e : covers new c ≡ false). rw e) (decide (covers new c))
+    write-kept c =
+        ⊎-elim (λ (e : covers new c ≡ true). rw e) (λ (e : covers new c ≡ false). rw e) (decide (covers new c))
 
     abbrev how : ℕ → Binding
     how = write-binding s a (length bytes)

@@ -237,7 +237,11 @@ executed k stores image group next bytes =
     let answer : Answer =
     record { status = cond cut 9 0; decided = anyOf decides some; group = cond cut 0 group; stores = length some }
     in
-    record { reply = record { answer = answer; next = cond cut off next }; image = made some image; bytes = cond cut [] bytes }
+    record {
+      reply = record { answer = answer; next = cond cut off next };
+      image = made some image;
+      bytes = cond cut [] bytes;
+    }
 
 -- a refused power-up answers the off record, every other refused call the record that it was given
 unfoldable pub record-refused : Record → Request → Record

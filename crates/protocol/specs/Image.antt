@@ -78,7 +78,12 @@ byte image i = getD image i 0
 
 unfoldable pub shape-of : List ℕ → Shape
 shape-of image =
-    record { boards = byte image 4; size = 2 ^ byte image 5; blocks = byte image 6 + 256 * byte image 7; context = byte image 8 }
+    record {
+      boards = byte image 4;
+      size = 2 ^ byte image 5;
+      blocks = byte image 6 + 256 * byte image 7;
+      context = byte image 8;
+    }
 
 -- the mark, an allowed shape, the exact length, and byte 9 at most `most`:
 -- 0 for all calls but power-up, which allows 1

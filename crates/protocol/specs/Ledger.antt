@@ -87,7 +87,8 @@ byte-in n a = getD (written (n .access)) (a - n .cell) 0
 
 -- a note wrote in block b
 unfoldable pub wrote-in : Shape → ℕ → Note → Bool
-wrote-in s b n = ltb 0 (length (written (n .access))) && anyOf (eqb b) (touched s (n .cell) (length (written (n .access))))
+wrote-in s b n =
+    ltb 0 (length (written (n .access))) && anyOf (eqb b) (touched s (n .cell) (length (written (n .access))))
 
 -- the last write noted in block b, undone ones included: j + 1 if it is pending and by board j, else 0
 unfoldable pub writer : Shape → List Note → ℕ → ℕ

@@ -17,7 +17,9 @@ use Rattle.store.proofs.Laws.{makes-none, makes-then, makes-all, makes-
 pub then-puts : {s : Shape} (ps qs : List Put) {b r r′ : Budget} {x y z : List ℕ}
     → Puts s ps b x r y → Puts s qs r y r′ z → Puts s (ps ++ qs) b x r′ z
 then-puts {s} ps qs {b} {r′ = r′} {x = x} {z = z} m n =
-    record { makes = subst (λ ss. Makes ss b x r′ z) (sym (map-append (raw s) ps qs)) (makes-then (m .makes) (n .makes)) }
+    record {
+      makes = subst (λ ss. Makes ss b x r′ z) (sym (map-append (raw s) ps qs)) (makes-then (m .makes) (n .makes));
+    }
 
 -- Q is what the next function stores, read off the image that it finds. It is Q of the memory after ps, unless the
 -- budget is cut, and then nothing more is stored.

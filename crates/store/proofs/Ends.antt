@@ -23,19 +23,22 @@ use Rattle.store.specs.Promise.{Performed, reply-of}
 -- the two ways to answer
 module _ (k : ℕ) (r : Budget) (decided : Bool) (group : ℕ) (next : Record) where
   pub reply-cut : (o : Record) → r .cut ≡ true → o ≡ off
-      → _≡_ {A = Reply} (record { answer = record { status = 9; decided = decided; group = 0; stores = k - r .left }; next = o })
+      → _≡_ {A = Reply}
+      (record { answer = record { status = 9; decided = decided; group = 0; stores = k - r .left }; next = o })
       (reply-of k r decided group next)
   unfolding reply-of
   reply-cut o e f = rw (e, f)
 
   pub reply-done : r .cut ≡ false
-      → _≡_ {A = Reply} (record { answer = record { status = 0; decided = decided; group = group; stores = k - r .left }; next = next })
+      → _≡_ {A = Reply}
+      (record { answer = record { status = 0; decided = decided; group = group; stores = k - r .left }; next = next })
       (reply-of k r decided group next)
   unfolding reply-of
   reply-done e = rw e
 
 -- stores made under a call's budget, as an outcome
-pub made-outcome : {ss : List Store} {k : ℕ} {r : Budget} {image after : List ℕ} (group : ℕ) (next : Record) (bytes : List ℕ)
+pub made-outcome : {ss : List Store} {k : ℕ} {r : Budget} {image after : List ℕ} (group : ℕ) (next : Record)
+    (bytes : List ℕ)
     (decided : Bool) → Makes ss (start k) image r after → decided ≡ anyOf decides (take k ss)
     → (reply-of k r decided group next ≡ executed k ss image group next bytes .reply)
     × (after ≡ executed k ss image group next bytes .image)

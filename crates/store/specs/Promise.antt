@@ -33,6 +33,11 @@ pub record Formatted (s : Shape) (before : List ℕ) (state : Record) (k : ℕ) 
 unfoldable pub reply-of : ℕ → Budget → Bool → ℕ → Record → Reply
 reply-of k r decided group next =
     record {
-      answer = record { status = cond (r .cut) 9 0; decided = decided; group = cond (r .cut) 0 group; stores = k - r .left };
+      answer = record {
+        status = cond (r .cut) 9 0;
+        decided = decided;
+        group = cond (r .cut) 0 group;
+        stores = k - r .left;
+      };
       next = cond (r .cut) off next;
     }

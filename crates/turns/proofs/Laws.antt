@@ -26,11 +26,13 @@ pub take-most : (n : ℕ) (y : List ℕ) → length (take n y) ≤ n
 take-most n y = omega (arith, length-take n y)
 
 -- an image of n bytes at the area's start that became y, as the borrow checker has it
-pub lent-image : (n : ℕ) (area y : List ℕ) → length y ≡ n → take n (take 0 area ++ (y ++ drop (n - 0) (drop 0 area))) ≡ y
+pub lent-image : (n : ℕ) (area y : List ℕ) → length y ≡ n
+    → take n (take 0 area ++ (y ++ drop (n - 0) (drop 0 area))) ≡ y
 lent-image n area y l = take-at y _ n l
 
 -- the first i bytes zero, the others as they were
-pub zeros-more : (i : ℕ) (s : List ℕ) → i < length s → set (replicate i 0 ++ drop i s) i 0 ≡ replicate (suc i) 0 ++ drop (suc i) s
+pub zeros-more : (i : ℕ) (s : List ℕ) → i < length s
+    → set (replicate i 0 ++ drop i s) i 0 ≡ replicate (suc i) 0 ++ drop (suc i) s
 zeros-more i [] h = absurd (omega arith)
 zeros-more zero (c ∷ s) h = refl
 zeros-more (suc i) (c ∷ s) h = ap {B = List ℕ} (λ r. 0 ∷ r) (zeros-more i s (omega arith))
@@ -41,7 +43,8 @@ zeros-all (c ∷ s) = ap {B = List ℕ} (λ r. 0 ∷ r) (zeros-all s)
 
 -- ---- outcomes
 
-pub outcome-of : (o : Outcome) {reply : Reply} {image bytes : List ℕ} → reply ≡ o .reply → image ≡ o .image → bytes ≡ o .bytes →
+pub outcome-of : (o : Outcome) {reply : Reply} {image bytes : List ℕ} → reply ≡ o .reply → image ≡ o .image
+    → bytes ≡ o .bytes →
     _≡_ {A = Outcome} (record { reply = reply; image = image; bytes = bytes }) o
 outcome-of o a b c = rw (a, b, c)
 
@@ -64,7 +67,8 @@ perform-length image r request k =
     (λ (e : eqb (first (refusals image s m r request)) 0 ≡ false). rw e)
     (decide (eqb (first (refusals image s m r request)) 0))
 
-pub format-length : (s : Shape) (image : List ℕ) (r : Record) (k : ℕ) → length (format s image r k .image) ≡ length image
+pub format-length : (s : Shape) (image : List ℕ) (r : Record) (k : ℕ)
+    → length (format s image r k .image) ≡ length image
 unfolding format refused
 format-length s image r k =
     ⊎-elim
@@ -73,10 +77,12 @@ format-length s image r k =
     (decide (eqb (first (format-tests s image)) 0))
 
 -- a call that plans no bytes answers none
-executed-none : (k : ℕ) (ss : List Store) (image : List ℕ) (g : ℕ) (next : Record) → [] ≡ executed k ss image g next [] .bytes
+executed-none : (k : ℕ) (ss : List Store) (image : List ℕ) (g : ℕ) (next : Record)
+    → [] ≡ executed k ss image g next [] .bytes
 unfolding executed
 executed-none k ss image g next =
-    ⊎-elim (λ (e : ltb k (length ss) ≡ true). rw e) (λ (e : ltb k (length ss) ≡ false). rw e) (decide (ltb k (length ss)))
+    ⊎-elim (λ (e : ltb k (length ss) ≡ true). rw e) (λ (e : ltb k (length ss) ≡ false). rw e)
+    (decide (ltb k (length ss)))
 
 pub no-bytes : (image : List ℕ) (r : Record) (request : Request) (k : ℕ) →
     plan (shape-of image) (view (shape-of image) image) r request .bytes ≡ [] → [] ≡ perform image r request k .bytes

@@ -68,7 +68,8 @@ module _ (request : Request) (k : ℕ) (state : Record) (area : List ℕ) (size 
   -- a turn with what the call left is the turn of its outcome
   pub called : (letter number : ℕ) {at : ℕ} {b bytes : List ℕ} {r : Turned} {x y : List ℕ} →
       bytes ≡ perform (take size area) state request k .bytes →
-      Turns (ended letter (record { reply = reply; image = take size (left size area part); bytes = bytes })) number at b r x y →
+      Turns (ended letter
+      (record { reply = reply; image = take size (left size area part); bytes = bytes })) number at b r x y →
       Turns (ended letter (perform (take size area) state request k)) number at b r x y
   unfolding o
   called letter number {at} {b} {r} {x} {y} e t =
@@ -76,7 +77,8 @@ module _ (request : Request) (k : ℕ) (state : Record) (area : List ℕ) (size 
       (outcome-of (perform (take size area) state request k) (performed .reply) image-left e) t
 
 -- the power-up that follows a cut
-pub powered : (state : Record) (area : List ℕ) (size number : ℕ) {at : ℕ} {b : List ℕ} {reply : Reply} {part : List ℕ} {e : ℕ}
+pub powered : (state : Record) (area : List ℕ) (size number : ℕ) {at : ℕ} {b : List ℕ} {reply : Reply} {part : List ℕ}
+    {e : ℕ}
     {y : List ℕ} → size ≤ length area → Performed Power-up uncut (lent size area) state reply part →
     Appends (row-text number (record { letter = 85; answer = reply .answer; bytes = [] })) at b e y → e ≤ at + 160 →
     Powered (perform (take size area) state Power-up uncut) size number at b
@@ -94,7 +96,8 @@ powered state area size number {reply} {part} l p m h =
 -- ---- turns
 
 -- a call that was cut
-pub cut-turn : (letter : ℕ) (o : Outcome) (number : ℕ) {at size : ℕ} {b x : List ℕ} {e : ℕ} {r : Turned} {area y : List ℕ} →
+pub cut-turn : (letter : ℕ) (o : Outcome) (number : ℕ) {at size : ℕ} {b x : List ℕ} {e : ℕ} {r : Turned}
+    {area y : List ℕ} →
     o .reply .answer .status ≡ 9 → Appends (row-text number (row letter o)) at b e x → e ≤ at + 160 → size ≤ area-size →
     Powered (perform (o .image) (o .reply .next) Power-up uncut) size number e x r area y →
     Turns (ended letter o) number at b r area y
@@ -126,7 +129,8 @@ pub read-turn : (area : List ℕ) (size : ℕ) (state : Record)
     (i a n k number : ℕ) {at count : ℕ} {b buffer x : List ℕ} {reply : Reply}
     {r : Turned} {y z : List ℕ} → Answered (Read i a n room) (lent size area) state buffer reply x →
     count ≡ cond (eqb (reply .answer .status) 0) n 0 →
-    Turns (ended 82 (record { reply = reply; image = take size area; bytes = take (count - 0) (drop 0 x) })) number at b r y z →
+    Turns (ended 82
+    (record { reply = reply; image = take size area; bytes = take (count - 0) (drop 0 x) })) number at b r y z →
     Turns (ended 82 (perform (take size area) state (Read i a n room) k)) number at b r y z
 read-turn area size state i a n k number {at} {b} {buffer} {x} {reply} {r} {y} {z} m c t =
     let image = take size area in
@@ -141,7 +145,8 @@ read-turn area size state i a n k number {at} {b} {buffer} {x} {reply} {r} {y} {
 -- ---- formats
 
 -- a format that left the area's first bytes, as a turn
-pub formatted : (s : Shape) (image : List ℕ) (k : ℕ) (state : Record) (number : ℕ) {at : ℕ} {b image′ : List ℕ} {reply : Reply} {r : Turned}
+pub formatted : (s : Shape) (image : List ℕ) (k : ℕ) (state : Record) (number : ℕ) {at : ℕ} {b image′ : List ℕ}
+    {reply : Reply} {r : Turned}
     {x y : List ℕ} → Formatted s image state k reply image′ →
     Turns (ended 70 (record { reply = reply; image = image′; bytes = [] })) number at b r x y →
     Turns (ended 70 (format s image state k)) number at b r x y
@@ -175,6 +180,7 @@ formatted-anew s area size k state {one} {two} {reply} l z f =
     ∙ lent-image size area one long
     ∙ zeros
     in
-    let g = formatted-lent s (left size area one) size k state (omega (arith, length-append one (drop (size - 0) (drop 0 area)), long)) f in
+    let g = formatted-lent s (left size area one) size k state
+    (omega (arith, length-append one (drop (size - 0) (drop 0 area)), long)) f in
     subst (λ (x : List ℕ). Formatted s x state k reply (take size (left size (left size area one) two)))
     (sym (ap (λ (m : ℕ). take m (left size area one)) (sub-zero size)) ∙ same) g

@@ -35,7 +35,8 @@ pub record Turns (t : Turn) (number at : ℕ) (before : List ℕ) (r : Turned) (
   pub fits : r .next .length ≤ area-size
 
 -- the row of a power-up o after a cut, and the player after it
-pub record Powered (o : Outcome) (size number at : ℕ) (before : List ℕ) (r : Turned) (area after : List ℕ) : Type 0 where
+pub record Powered (o : Outcome) (size number at : ℕ) (before : List ℕ) (r : Turned)
+    (area after : List ℕ) : Type 0 where
   pub text : Appends (row-text number (row 85 o)) at before (r .at) after
   pub room : r .at ≤ at + 160
   pub next : player-of (r .next) area ≡ moved o

@@ -71,8 +71,8 @@ pub fn end_turn(
     requires { ⌜ (size ≤ 35852) × (35852 ≤ length (now area)) × (length (now bytes) ≤ 64)
         × (at + 320 ≤ length (now out)) ⌝ }
     ensures { λ r. ⌜ Turns
-        (ended letter (record { reply = reply; image = take size (now (area .entry)); bytes = now (bytes .entry) })) number at
-        (now (out .entry)) r (now (area .exit)) (now (out .exit)) ⌝ }
+        (ended letter (record { reply = reply; image = take size (now (area .entry)); bytes = now (bytes .entry) }))
+        number at (now (out .entry)) r (now (area .exit)) (now (out .exit)) ⌝ }
 {
     let answer = reply.answer;
     let state = reply.next;

@@ -10,7 +10,8 @@ use Rattle.access.proofs.fill.Statement.{statement}
 use Rattle.access.proofs.fill.Tie as tie
 
 abbrev Inv-loop : tie.InvT-loop
-Inv-loop image at n buffer₀ x₀ buffer x = (x ≤ n) × (buffer ≡ filled-from image at x buffer₀) × (length buffer ≡ length buffer₀)
+Inv-loop image at n buffer₀ x₀ buffer x =
+    (x ≤ n) × (buffer ≡ filled-from image at x buffer₀) × (length buffer ≡ length buffer₀)
 
 abbrev μ-loop : tie.MeasureT-loop
 μ-loop image at n buffer₀ x₀ buffer x = n - x
@@ -27,7 +28,8 @@ loop-again c =
     ap (λ (l : List ℕ). set l x (getD (args .image .now) (args .at + x) 0)) (head .loop .inv .1)
     ∙ fill-more (args .image .now) (args .buffer .now) (args .at) x (omega arith)
     in
-    (omega arith, next, ap length next ∙ fill-length (args .image .now) (args .buffer .now) (args .at) (x + 1) (omega arith))
+    let long = fill-length (args .image .now) (args .buffer .now) (args .at) (x + 1) (omega arith) in
+    (omega arith, next, ap length next ∙ long)
 
 same-length : tie.Need-same-length Inv-loop μ-loop
 same-length c = c .before .loop .inv .2

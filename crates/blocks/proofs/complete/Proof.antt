@@ -34,7 +34,8 @@ returns c =
     let second = third .before .before .before .before in
     let first = second .before .before .before .before in
     let start = first .before .before .before in
-    completes (start .pre .1) (start .pre .2) (start .args .g) (first .copy-blocks .ensures) (second .copy-contexts .ensures)
+    completes (start .pre .1) (start .pre .2) (start .args .g) (first .copy-blocks .ensures)
+    (second .copy-contexts .ensures)
     (cleared (start .args .s) (third .store .ensures))
 
 pub complete-spec : {M : Type 1} → statement M

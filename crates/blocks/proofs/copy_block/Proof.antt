@@ -23,7 +23,8 @@ returns : tie.Need-returns
 returns c =
     let args = c .before .before .before .before .args in
     let pre = c .before .before .before .before .pre in
-    block-left (args .g) (args .save) (args .b) (pre .2) (sym (c .before .tagged-in .ensures) ∙ not-true _ (c .if1 .taken))
+    block-left (args .g) (args .save) (args .b) (pre .2)
+    (sym (c .before .tagged-in .ensures) ∙ not-true _ (c .if1 .taken))
 
 mul-cells : tie.Need-mul-cells
 mul-cells c = omega (arith, bounded (c .before .before .before .before .before .pre .0))
@@ -40,7 +41,8 @@ add-at : tie.Need-add-at
 unfolding base
 add-at c =
     let start = c .before .before .before .before .before .before in
-    omega (arith, bounded (start .pre .0), block-fits (start .args .s) (start .args .b) (start .pre .2), c .current-at .ensures)
+    let fits = block-fits (start .args .s) (start .args .b) (start .pre .2) in
+    omega (arith, bounded (start .pre .0), fits, c .current-at .ensures)
 
 offset-requires : tie.Need-offset-requires
 offset-requires c κs = tt
@@ -59,7 +61,8 @@ copy-at-requires c κs =
 
 add-store : tie.Need-add-store
 add-store c =
-    let start = c .before .before .before .before .before .before .before .before .before .before .before .before .before in
+    let cur = c .before .before .before .before .before .before .before in
+    let start = cur .before .before .before .before .before .before in
     omega (arith, bounded (start .pre .0))
 
 store-requires : tie.Need-store-requires
@@ -79,7 +82,8 @@ returns-2 c =
     let start = tagged .before .before .before in
     let at = ap (λ (x : ℕ). x + start .args .b * start .args .s .size) (cur .current-at .ensures) in
     block-done (start .args .g) (start .args .save) (start .args .b) (start .pre .2)
-    (sym (tagged .tagged-in .ensures) ∙ not-false _ (cur .before .before .if1 .left)) at (apart .before .offset .ensures)
+    (sym (tagged .tagged-in .ensures) ∙ not-false _ (cur .before .before .if1 .left))
+    at (apart .before .offset .ensures)
     (apart .offset2 .ensures) (copied .copy-at .ensures) (stored .store .ensures)
 
 pub copy-block-spec : {M : Type 1} → statement M

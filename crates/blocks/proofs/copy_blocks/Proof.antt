@@ -32,7 +32,8 @@ loop-holds c =
     let start = c .before .before .before in
     let first = c .next-tagged .ensures in (
       first .1,
-      blocks-skip (start .pre .1) (start .pre .2) (start .args .g) (start .args .save) 0 (c .next-tagged .result) (omega arith) (first .1)
+      blocks-skip (start .pre .1) (start .pre .2) (start .args .g) (start .args .save) 0 (c .next-tagged .result)
+          (omega arith) (first .1)
           (first .2) (puts-none _ _ _),
     )
 
@@ -67,7 +68,8 @@ loop-again c =
     let start = head .before .before .before .before in
     let next = c .next-tagged2 .ensures in (
       next .1,
-      blocks-skip (start .pre .1) (start .pre .2) (start .args .g) (start .args .save) (head .loop .b + 1) (c .next-tagged2 .result)
+      blocks-skip (start .pre .1) (start .pre .2) (start .args .g) (start .args .save) (head .loop .b + 1)
+          (c .next-tagged2 .result)
           (next .0) (next .1) (next .2)
           (blocks-again (start .pre .1) (start .pre .2) (start .args .g) (start .args .save) (head .loop .b)
           (called .before .before .if1 .taken) (head .loop .inv .1) (called .copy-block .ensures)),
@@ -83,7 +85,8 @@ returns c =
     let args = head .before .before .before .before .args in
     let done : head .loop .b ≡ args .s .blocks = omega (arith, c .if1 .left, head .loop .inv .0) in
     subst
-    (λ n. Puts (args .s) (for n (block-puts (args .s) (view (args .s) (now (args .image))) (args .g) (args .save))) (args .k)
+    (λ n. Puts (args .s) (for n (block-puts (args .s) (view (args .s) (now (args .image))) (args .g) (args .save)))
+    (args .k)
     (now (args .image)) (head .loop .left) (head .loop .image))
     done (head .loop .inv .1)
 

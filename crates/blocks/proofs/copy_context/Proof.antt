@@ -36,7 +36,8 @@ add-at : tie.Need-add-at
 unfolding base
 add-at c =
     let start = c .before .before .before .before .before in
-    omega (arith, bounded (start .pre .0), context-fits (start .args .s) (start .args .i) (start .pre .2), c .tentative-at .ensures)
+    let fits = context-fits (start .args .s) (start .args .i) (start .pre .2) in
+    omega (arith, bounded (start .pre .0), fits, c .tentative-at .ensures)
 
 copy-at-requires : tie.Need-copy-at-requires
 unfolding base total

@@ -67,7 +67,8 @@ loop-again c =
     let head = c .before .before .before .before .before .before in
     let s = head .before .args .s .now in
     let other = c .before .before .before .if1 .left in
-    let next = number-more s (head .loop .i) (omega arith) (head .loop .v) other (omega arith) (omega arith) (omega arith) in
+    let next = number-more s (head .loop .i) (omega arith) (head .loop .v) other (omega arith) (omega arith)
+    (omega arith) in
     (omega arith, omega arith, sym next ∙ head .loop .inv .2)
 
 returns-5 : tie.Need-returns-5 Inv-loop μ-loop

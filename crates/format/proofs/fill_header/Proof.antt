@@ -46,7 +46,8 @@ loop-again c =
     let head = given .before .before in
     let args = head .before .before .args in
     let round =
-    filled-more (header-store (args .s)) 1 (head .loop .i) (omega arith) (ap (one (head .loop .i)) (given .header-byte .ensures))
+    filled-more (header-store (args .s)) 1 (head .loop .i) (omega arith)
+    (ap (one (head .loop .i)) (given .header-byte .ensures))
     (head .loop .inv .3) (stored .store .ensures) in
     (omega arith, omega arith, makes-length round, round)
 

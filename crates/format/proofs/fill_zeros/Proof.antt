@@ -38,7 +38,8 @@ loop-again : tie.Need-loop-again Inv-loop μ-loop
 loop-again c =
     let stored = c .before .before in
     let head = stored .before .before .before in
-    let round = filled-more zero-store 9 (head .loop .i) (omega arith) refl (head .loop .inv .3) (stored .store .ensures) in
+    let round = filled-more zero-store 9 (head .loop .i) (omega arith) refl (head .loop .inv .3)
+    (stored .store .ensures) in
     (omega arith, omega arith, makes-length round, round)
 
 same-length : tie.Need-same-length Inv-loop μ-loop

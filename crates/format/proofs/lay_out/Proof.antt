@@ -38,7 +38,8 @@ returns c =
     let first = named .before .before .before .before in
     let start = first .before .before .before in
     let long = makes-length (named .fill-header .ensures) ∙ makes-length (first .store .ensures) ∙ start .pre .1 in
-    laid-out (start .args .s) _ long (omega (arith, long)) (first .store .ensures) (named .fill-header .ensures) (zeros .fill-zeros .ensures)
+    laid-out (start .args .s) _ long (omega (arith, long)) (first .store .ensures) (named .fill-header .ensures)
+    (zeros .fill-zeros .ensures)
     (last .store2 .ensures)
 
 pub lay-out-spec : {M : Type 1} → statement M

@@ -34,7 +34,8 @@ loop-again c =
       omega arith,
       length-set (at .s) (at .i) 0 ∙ at .inv .1,
       rw (add-one (at .i))
-          (ap (λ (x : List ℕ). set x (at .i) 0) (at .inv .2) ∙ zeros-more (at .i) (c .before .before .args .s .now) (omega arith)),
+          (ap (λ (x : List ℕ). set x (at .i) 0) (at .inv .2) ∙ zeros-more (at .i) (c .before .before .args .s .now)
+          (omega arith)),
     )
 
 same-length : tie.Need-same-length Inv-loop μ-loop

@@ -37,7 +37,8 @@ returns c =
     let made = c .before .before in
     let cleared = made .before .before .before .before in
     let args = c .before .before .before .before .before .before .before .before .before .args in
-    formatted-anew (args .s) (args .area .now) (args .size) (args .k) (args .state) (search needs) (cleared .clear .ensures)
+    formatted-anew (args .s) (args .area .now) (args .size) (args .k) (args .state) (search needs)
+    (cleared .clear .ensures)
     (made .format .ensures)
 
 pub format-anew-spec : {M : Type 1} → statement M

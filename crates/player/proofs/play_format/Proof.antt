@@ -66,7 +66,8 @@ format-anew-requires c κs =
     let sized = c .before in
     let other = sized .before in
     let fine = sym (other .before .allowed .ensures) ∙ not-false _ (other .if1 .left) in
-    omega (arith, sized .total .ensures, bounded fine .most-total, other .before .before .before .before .before .before .pre .room)
+    let room = other .before .before .before .before .before .before .pre .room in
+    omega (arith, sized .total .ensures, bounded fine .most-total, room)
 
 sub-end-turn-2 : tie.Need-sub-end-turn-2
 sub-end-turn-2 c = omega arith

@@ -13,7 +13,8 @@ off-requires c κs = tt
 returns : tie.Need-returns
 returns c =
     let args = c .before .before .before .args in
-    reply-cut (args .k) (args .left) (args .decided) (args .group) (args .next) _ (c .before .if1 .taken) (c .off .ensures)
+    reply-cut (args .k) (args .left) (args .decided) (args .group) (args .next) _ (c .before .if1 .taken)
+    (c .off .ensures)
 
 returns-2 : tie.Need-returns-2
 returns-2 c =
