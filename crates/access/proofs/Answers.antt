@@ -13,7 +13,8 @@ use native.Mathlib.Omega.{arith}
 use borrow.Author.Tests.{le-ltb}
 use Rattle.boards.specs.Lists.{span, anyOf}
 use Rattle.protocol.specs.Accesses.{touched, read-binding, write-binding, bind-tag}
-use Rattle.protocol.specs.declared.Binding.the-variants.{OneWay, TwoWay}
+use Rattle.protocol.specs.declared.Binding.{Binding}
+use Rattle.protocol.specs.declared.Binding.the-variants.{OneWay}
 use Rattle.protocol.specs.Image.{Current, Tags, Store, Put, raw, size, base, total, shape-of, view}
 use Rattle.volatile.specs.Volatile.{depend}
 use Rattle.protocol.specs.Calls.{Read, Write, refusal-at, refusal-of, tagging, placing, plan, refused, record-refused}
@@ -35,9 +36,9 @@ use Rattle.store.proofs.Ends.{ended, turned}
 use Rattle.layout.proofs.Laws.{bounded}
 use Rattle.admission.specs.declared.Place.{Place}
 use Rattle.admission.specs.Places.{Placed}
-use Rattle.admission.proofs.Touched.{touched-one, bind-one}
+use Rattle.admission.proofs.Touched.{touched-one, whole-one, bind-one}
 use Rattle.admission.proofs.Tests.{block-of}
-use Rattle.access.specs.Leaves.{filled-from, tag-store}
+use Rattle.access.specs.Leaves.{filled-from, tag-store, binding-of}
 
 -- the place of an access in the image
 pub record Within (image : List ℕ) (n : ℕ) (p : Place) : Type 0 where
@@ -139,16 +140,25 @@ module _ {image : List ℕ} {r : Record} (i a : ℕ) (bytes : List ℕ) {p : Pla
         map-append (raw s) (tagging (view s image) i (touched s a (length bytes))) (placing Current a bytes)
         ∙ ap₂ (λ x y. x ++ y) tag-stored (placing-stores s Current a (p .at) bytes (k .begins))
 
-    pub write-done : {m : ℕ} {b left : Budget} {next : Record} {reply : Reply} {after : List ℕ}
-        → refusal-at image r (Write i a bytes) ≡ 0 → next ≡ bind-tag depend TwoWay r i (p .tag) → b ≡ start m
+    -- its kind of binding, as the code chooses it
+    bound-as : let s = shape-of image in binding-of p (length bytes) ≡ write-binding s a (length bytes) (a / s .size)
+    unfolding write-binding
+    bound-as =
+        let s = shape-of image in
+        let some = bounded (k .entry .shaped .allowed-shape) .limits .some-size in
+        rw (k .block-size, whole-one s a (length bytes) some (k .range))
+
+    pub write-done : {m : ℕ} {b left : Budget} {how : Binding} {next : Record} {reply : Reply} {after : List ℕ}
+        → refusal-at image r (Write i a bytes) ≡ 0 → how ≡ binding-of p (length bytes)
+        → next ≡ bind-tag depend how r i (p .tag) → b ≡ start m
         → Makes (tag-store p i ++ put-stores (p .at) bytes) b image left after
         → reply ≡ reply-of m left false 0 next → Performed (Write i a bytes) m image r reply after
-    unfolding plan write-binding
-    write-done {m} {b} {left} {after = after} z q new h g =
+    unfolding plan
+    write-done {m} {b} {left} {after = after} z e q new h g =
         let s = shape-of image in
         let n = length bytes in
         let shaped = k .entry .shaped in
-        let bound = q ∙ ap (bind-tag depend TwoWay r i) (k .tag)
+        let bound = q ∙ ap₂ (λ how t. bind-tag depend how r i t) (e ∙ bound-as) (k .tag)
         ∙ sym (bind-one s (view s image) a n (k .range) (write-binding s a n) r i) in
         let some = bounded (shaped .allowed-shape) .limits .some-size in
         let inside = write-inside s (view s image) i a bytes some (ranged s a n (k .range)) in

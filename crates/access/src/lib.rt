@@ -25,9 +25,9 @@ ghost use Rattle.layout.specs.Headers.{tags-at};
 ghost use Rattle.store.specs.Budget.{Makes};
 ghost use Rattle.store.specs.Runs.{put-stores};
 ghost use Rattle.store.specs.Promise.{Performed, Answered};
-ghost use Rattle.access.specs.Leaves.{filled-from, tag-store};
+ghost use Rattle.access.specs.Leaves.{filled-from, tag-store, binding-of};
 
-// An access of a block with this tag binds the board to the writer, if that is another board.
+// An access of a block with this tag binds the board and the writer, if that is another board.
 fn bind(state: Record, how: Binding, i: u8, tag: u8) -> Record
     requires { ⌜ (i < 16) × (tag ≤ 16) ⌝ }
     ensures { λ r. ⌜ r ≡ bind-tag depend how state i tag ⌝ }
@@ -38,10 +38,10 @@ fn bind(state: Record, how: Binding, i: u8, tag: u8) -> Record
     if i == j {
         return state;
     }
-    let once = state.depend(i, j);
     match how {
-        Binding::OneWay => once,
-        Binding::TwoWay => once.depend(j, i),
+        Binding::OneWay => state.depend(i, j),
+        Binding::TwoWay => state.depend(i, j).depend(j, i),
+        Binding::Opposite => state.depend(j, i),
     }
 }
 
@@ -101,7 +101,18 @@ fn put_bytes(image: &mut [u8], p: Place, i: u8, bytes: &[u8], k: Budget) -> Budg
     put_all(image, p.at, bytes, tagged)
 }
 
-// The bytes become the current bytes from the cell on; the board and the block's writer come to depend on each other.
+// How a write of n bytes binds in its block, which it overwrites whole if they are as many as the block has.
+fn write_binding(p: Place, n: usize) -> Binding
+    ensures { λ r. ⌜ r ≡ binding-of p n ⌝ }
+{
+    if n == p.size {
+        return Binding::Opposite;
+    }
+    Binding::TwoWay
+}
+
+// The bytes become the current bytes from the cell on; the block's writer comes to depend on the board and, if the
+// block is not overwritten whole, the board on the writer.
 pub fn write(
     image: &mut [u8],
     state: Record,
@@ -118,8 +129,9 @@ pub fn write(
         return refusal(admission.number(), state);
     };
     let i = board as u8;
-    let next = bind(state, Binding::TwoWay, i, p.tag);
-    let whole = Budget::new(k);
-    let left = put_bytes(image, p, i, bytes, whole);
+    let how = write_binding(p, bytes.len());
+    let next = bind(state, how, i, p.tag);
+    let budget = Budget::new(k);
+    let left = put_bytes(image, p, i, bytes, budget);
     finish(k, left, false, 0, next)
 }

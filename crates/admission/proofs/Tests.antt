@@ -46,6 +46,7 @@ placed {image} {r} {i} {n} {room} {p = p} a e entry ok fits l =
       begins = ap (λ (p : Place). p .at) e;
       block = ap (λ (p : Place). p .block) e;
       tag = ap (λ (p : Place). p .tag) e;
+      block-size = ap (λ (p : Place). p .size) e;
       tag-known = l;
     })
     e entry ok l

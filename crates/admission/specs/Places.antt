@@ -17,7 +17,7 @@ use Rattle.admission.specs.declared.Admission.the-variants.{Refused, Tak
 abbrev pub place-at : Shape → List ℕ → ℕ → Place
 place-at s image a =
     let b = a / s .size in
-    record { at = base s Current + a; block = b; tag = view s image Tags b }
+    record { at = base s Current + a; block = b; tag = view s image Tags b; size = s .size }
 
 -- what the cases of Admission say
 abbrev pub admission-says : Admission → ℕ ⊎ Place
@@ -33,4 +33,5 @@ pub record Placed (image : List ℕ) (r : Record) (i a n room : ℕ) (p : Place)
   pub begins : p .at ≡ base (shape-of image) Current + a
   pub block : p .block ≡ a / shape-of image .size
   pub tag : p .tag ≡ view (shape-of image) image Tags (a / shape-of image .size)
+  pub block-size : p .size ≡ shape-of image .size
   pub tag-known : p .tag ≤ shape-of image .boards

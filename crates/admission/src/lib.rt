@@ -16,11 +16,12 @@ ghost use Rattle.protocol.specs.Calls.{Read, Write, refusal-at, bad-range};
 ghost use Rattle.entry.specs.Tested.{refusal-number, Tested};
 ghost use Rattle.admission.specs.Places.{place-at, admission-says, Placed};
 
-// Where an access begins in the image; its block, and that block's tag.
+// Where an access begins in the image; its block, that block's tag and its size.
 pub struct Place {
     pub at: usize,
     pub block: usize,
     pub tag: u8,
+    pub size: usize,
 }
 
 // What the tests of an access answer: the number of the refusal, or where it lies.
@@ -71,7 +72,12 @@ fn locate(image: &[u8], s: Shape, cell: usize) -> Place
     let block = cell / s.size;
     let tag = image[TAGS + block];
     let at = current_at(s) + cell;
-    Place { at, block, tag }
+    Place {
+        at,
+        block,
+        tag,
+        size: s.size,
+    }
 }
 
 // A read: the first tests of a board's call, then 2, 5, 11 for the block's tag, 13.

@@ -1,20 +1,20 @@
 -- Accesses: the blocks that they touch, and the links that they make.
-use Prim.Native.Nat.{ℕ, zero, suc, _+_, _-_, _/_, _≤_, _<_}
+use Prim.Native.Nat.{ℕ, zero, suc, _+_, _-_, _*_, _/_, _≤_, _<_}
 use native.Mathlib.Nat.{le-div-iff-mul-le, div-lt-iff-lt-mul, div-mul-le-self, lt-div-mul-add, le-trans}
 use mathlib.Core.Path.{_≡_, refl, sym, _∙_, ap, subst}
-use mathlib.Core.Bool.{Bool, true, false}
+use mathlib.Core.Bool.{Bool, true, false, not}
 use mathlib.Core.List.{List, [], _∷_}
 use mathlib.Core.Logic.{⊎-elim}
-use lib.Dec.{eqb}
+use lib.Dec.{eqb, leb}
 use native.Mathlib.Omega.{arith}
-use borrow.Author.Tests.{eq-eqb, eqb-true, eqb-false}
+use borrow.Author.Tests.{eq-eqb, eqb-true, eqb-false, leb-true}
 use Rattle.boards.specs.Lists.{anyOf}
 use Rattle.boards.specs.Boards.{Links, link, Chain, step}
-use Rattle.protocol.specs.Accesses.{touched, bind-boards, bind-tag, bind-blocks}
+use Rattle.protocol.specs.Accesses.{touched, whole, write-binding, bind-boards, bind-tag, bind-blocks}
 use Rattle.protocol.specs.declared.Binding.{Binding}
-use Rattle.protocol.specs.declared.Binding.the-variants.{OneWay, TwoWay}
+use Rattle.protocol.specs.declared.Binding.the-variants.{OneWay, TwoWay, Opposite}
 use Rattle.protocol.specs.declared.Shape.{Shape}
-use Rattle.boards.proofs.Basics.{decide, clash, or-true, or-right, true-or, All, none, also, all-map}
+use Rattle.boards.proofs.Basics.{decide, clash, and-true, or-true, or-right, true-or, All, none, also, all-map}
 use Rattle.boards.proofs.Groups.{Forward, Bounded, chain-more, chain-last, link-new, link-old, link-cases, link-bounded}
 use Rattle.protocol.proofs.Marks.{To, to, From, from}
 
@@ -51,6 +51,13 @@ cell-touched s a n c pos small lo hi =
     (decide (eqb first last)))
     (decide (eqb q first))
 
+-- the cells of a block that is overwritten whole
+pub whole-bounds : (s : Shape) (a n b : ℕ) → whole s a n b ≡ true
+    → (a ≤ b * s .size) × (b * s .size + s .size ≤ a + n)
+whole-bounds s a n b e =
+    let both = and-true (leb a (b * s .size)) (leb (b * s .size + s .size) (a + n)) e in
+    (leb-true a (b * s .size) (both .0), leb-true (b * s .size + s .size) (a + n) (both .1))
+
 -- a fact of all elements is one of each that is found
 pub all-found : {P : ℕ → Type 0} (b : ℕ) (bs : List ℕ) → All P bs → anyOf (eqb b) bs ≡ true → P b
 unfolding anyOf
@@ -68,6 +75,7 @@ tie-wider : (how : Binding) (d : Links) (i j a b : ℕ) → d a b ≡ true → b
 unfolding bind-boards
 tie-wider OneWay d i j a b h = link-old d i j a b h
 tie-wider TwoWay d i j a b h = link-old (link d i j) j i a b (link-old d i j a b h)
+tie-wider Opposite d i j a b h = link-old d _ _ a b h
 
 bind-wider : (how : Binding) (d : Links) (i t a b : ℕ) → d a b ≡ true → bind-tag link how d i t a b ≡ true
 unfolding bind-tag
@@ -83,30 +91,58 @@ binds-wider how tag d i [] a b h = h
 binds-wider how tag d i (c ∷ bs) a b h =
     binds-wider how tag (bind-tag link (how c) d i (tag c)) i bs a b (bind-wider (how c) d i (tag c) a b h)
 
--- the board comes to reach all that a tag's board reaches; after a write, what reaches a tag's board reaches the board
-tie-forth : (how : Binding) (d : Links) (i j : ℕ) → bind-boards link how d i j i j ≡ true
-unfolding bind-boards
-tie-forth OneWay d i j = link-new d i j
-tie-forth TwoWay d i j = link-old (link d i j) j i i j (link-new d i j)
+-- whether a binding makes the board depend on the writer; whether it makes the writer depend on the board
+unfoldable pub goes-forth : Binding → Bool
+goes-forth OneWay = true
+goes-forth TwoWay = true
+goes-forth Opposite = false
 
-tie-back : (d : Links) (i j : ℕ) → bind-boards link TwoWay d i j j i ≡ true
-unfolding bind-boards
-tie-back d i j = link-new (link d i j) j i
+unfoldable pub goes-back : Binding → Bool
+goes-back OneWay = false
+goes-back TwoWay = true
+goes-back Opposite = true
 
-bind-from : (how : Binding) (d : Links) (i t m : ℕ) → From d m t → Chain (bind-tag link how d i t) i m
+-- a write goes back in every block, and forth where it leaves a cell
+pub write-forth : (s : Shape) (a n b : ℕ) → goes-forth (write-binding s a n b) ≡ not (whole s a n b)
+unfolding write-binding goes-forth
+write-forth s a n b = ⊎-elim (λ (e : whole s a n b ≡ true). rw e) (λ (e : whole s a n b ≡ false). rw e)
+    (decide (whole s a n b))
+
+pub write-back : (s : Shape) (a n b : ℕ) → goes-back (write-binding s a n b) ≡ true
+unfolding write-binding goes-back
+write-back s a n b = ⊎-elim (λ (e : whole s a n b ≡ true). rw e) (λ (e : whole s a n b ≡ false). rw e)
+    (decide (whole s a n b))
+
+-- where it goes forth the board comes to reach all that a tag's board reaches; where it goes back, what reaches a tag's
+-- board comes to reach the board
+tie-forth : (how : Binding) (d : Links) (i j : ℕ) → goes-forth how ≡ true → bind-boards link how d i j i j ≡ true
+unfolding bind-boards goes-forth
+tie-forth OneWay d i j w = link-new d i j
+tie-forth TwoWay d i j w = link-old (link d i j) j i i j (link-new d i j)
+tie-forth Opposite d i j w = clash w refl
+
+tie-back : (how : Binding) (d : Links) (i j : ℕ) → goes-back how ≡ true → bind-boards link how d i j j i ≡ true
+unfolding bind-boards goes-back
+tie-back OneWay d i j w = clash w refl
+tie-back TwoWay d i j w = link-new (link d i j) j i
+tie-back Opposite d i j w = link-new d j i
+
+bind-from : (how : Binding) (d : Links) (i t m : ℕ) → goes-forth how ≡ true → From d m t
+    → Chain (bind-tag link how d i t) i m
 unfolding bind-tag
-bind-from how d i (suc j) m (from c) =
+bind-from how d i (suc j) m w (from c) =
     ⊎-elim
     (λ (e : eqb i j ≡ true). rw e (subst (λ x. Chain d x m) (sym (eqb-true i j e)) c))
-    (λ (e : eqb i j ≡ false). rw e (step (tie-forth how d i j) (chain-more (tie-wider how d i j) c)))
+    (λ (e : eqb i j ≡ false). rw e (step (tie-forth how d i j w) (chain-more (tie-wider how d i j) c)))
     (decide (eqb i j))
 
-bind-to : (d : Links) (i t m : ℕ) → To d m t → Chain (bind-tag link TwoWay d i t) m i
+bind-to : (how : Binding) (d : Links) (i t m : ℕ) → goes-back how ≡ true → To d m t
+    → Chain (bind-tag link how d i t) m i
 unfolding bind-tag
-bind-to d i (suc j) m (to c) =
+bind-to how d i (suc j) m w (to c) =
     ⊎-elim
     (λ (e : eqb i j ≡ true). rw e (subst (λ x. Chain d m x) (sym (eqb-true i j e)) c))
-    (λ (e : eqb i j ≡ false). rw e (chain-last (chain-more (tie-wider TwoWay d i j) c) (tie-back d i j)))
+    (λ (e : eqb i j ≡ false). rw e (chain-last (chain-more (tie-wider how d i j) c) (tie-back how d i j w)))
     (decide (eqb i j))
 
 pub from-more : {d e : Links} {m t : ℕ} → ((a b : ℕ) → d a b ≡ true → e a b ≡ true) → From d m t → From e m t
@@ -116,38 +152,38 @@ pub to-more : {d e : Links} {m t : ℕ} → ((a b : ℕ) → d a b ≡ true → 
 to-more wider (to c) = to (chain-more wider c)
 
 pub binds-from : (how : ℕ → Binding) (tag : ℕ → ℕ) (d : Links) (i : ℕ) (bs : List ℕ)
-    → All (λ b. (m : ℕ) → From d m (tag b) → Chain (bind-blocks link how tag d i bs) i m) bs
+    → All (λ b. goes-forth (how b) ≡ true → (m : ℕ) → From d m (tag b) → Chain (bind-blocks link how tag d i bs) i m) bs
 unfolding bind-blocks
 binds-from how tag d i [] = none
 binds-from how tag d i (b ∷ bs) =
     let e = bind-tag link (how b) d i (tag b) in
     also
-    (λ m h. chain-more (binds-wider how tag e i bs) (bind-from (how b) d i (tag b) m h))
-    (all-map (λ x f m h. f m (from-more (bind-wider (how b) d i (tag b)) h)) (binds-from how tag e i bs))
+    (λ w m h. chain-more (binds-wider how tag e i bs) (bind-from (how b) d i (tag b) m w h))
+    (all-map (λ x f w m h. f w m (from-more (bind-wider (how b) d i (tag b)) h)) (binds-from how tag e i bs))
 
 pub binds-to : (how : ℕ → Binding) (tag : ℕ → ℕ) (d : Links) (i : ℕ) (bs : List ℕ)
-    → All (λ b. how b ≡ TwoWay → (m : ℕ) → To d m (tag b) → Chain (bind-blocks link how tag d i bs) m i) bs
+    → All (λ b. goes-back (how b) ≡ true → (m : ℕ) → To d m (tag b) → Chain (bind-blocks link how tag d i bs) m i) bs
 unfolding bind-blocks
 binds-to how tag d i [] = none
 binds-to how tag d i (b ∷ bs) =
     let e = bind-tag link (how b) d i (tag b) in
     also
-    (λ w m h. chain-more (binds-wider how tag e i bs)
-    (subst (λ k. Chain (bind-tag link k d i (tag b)) m i) (sym w) (bind-to d i (tag b) m h)))
+    (λ w m h. chain-more (binds-wider how tag e i bs) (bind-to (how b) d i (tag b) m w h))
     (all-map (λ x f w m h. f w m (to-more (bind-wider (how b) d i (tag b)) h)) (binds-to how tag e i bs))
 
 -- links stay between boards below n
 module _ {n : ℕ} {i : ℕ} (small : i < n) where
-  bind-bounded : (how : Binding) (d : Links) (t : ℕ) → t ≤ n → Bounded n d → Bounded n (bind-tag link how d i t)
-  unfolding bind-tag bind-boards
+  tie-bounded : (how : Binding) (d : Links) (j : ℕ) → j < n → Bounded n d → Bounded n (bind-boards link how d i j)
+  unfolding bind-boards
+  tie-bounded OneWay d j l h = link-bounded h small l
+  tie-bounded TwoWay d j l h = link-bounded (link-bounded h small l) l small
+  tie-bounded Opposite d j l h = link-bounded h l small
+
+  pub bind-bounded : (how : Binding) (d : Links) (t : ℕ) → t ≤ n → Bounded n d → Bounded n (bind-tag link how d i t)
+  unfolding bind-tag
   bind-bounded how d zero l h = h
-  bind-bounded OneWay d (suc j) l h =
-      ⊎-elim (λ (e : eqb i j ≡ true). rw e h) (λ (e : eqb i j ≡ false). rw e (link-bounded h small l))
-      (decide (eqb i j))
-  bind-bounded TwoWay d (suc j) l h =
-      ⊎-elim
-      (λ (e : eqb i j ≡ true). rw e h)
-      (λ (e : eqb i j ≡ false). rw e (link-bounded (link-bounded h small l) l small))
+  bind-bounded how d (suc j) l h =
+      ⊎-elim (λ (e : eqb i j ≡ true). rw e h) (λ (e : eqb i j ≡ false). rw e (tie-bounded how d j l h))
       (decide (eqb i j))
 
   pub binds-bounded : (how : ℕ → Binding) (tag : ℕ → ℕ) (d : Links) (bs : List ℕ) → ((b : ℕ) → tag b ≤ n) → Bounded n d
@@ -168,19 +204,22 @@ link-forward {p} {d} i j out f =
 
 pub data Outside (p : ℕ → Bool) : Binding → ℕ → Type 0 where
   reading : {t : ℕ} → Outside p OneWay t
-  untagged : Outside p TwoWay 0
-  writing : {j : ℕ} → p j ≡ false → Outside p TwoWay (suc j)
+  untagged : {how : Binding} → Outside p how 0
+  writing : {how : Binding} {j : ℕ} → p j ≡ false → Outside p how (suc j)
+
+tie-forward : {p : ℕ → Bool} (how : Binding) {d : Links} (i j : ℕ) → p i ≡ false → Outside p how (suc j)
+    → Forward p d → Forward p (bind-boards link how d i j)
+unfolding bind-boards
+tie-forward OneWay i j out o f = link-forward i j out f
+tie-forward TwoWay i j out (writing q) f = link-forward j i q (link-forward i j out f)
+tie-forward Opposite i j out (writing q) f = link-forward j i q f
 
 bind-forward : {p : ℕ → Bool} {how : Binding} {d : Links} (i t : ℕ) → p i ≡ false → Outside p how t → Forward p d
     → Forward p (bind-tag link how d i t)
-unfolding bind-tag bind-boards
+unfolding bind-tag
 bind-forward i zero out o f = f
-bind-forward i (suc j) out reading f =
-    ⊎-elim (λ (e : eqb i j ≡ true). rw e f) (λ (e : eqb i j ≡ false). rw e (link-forward i j out f)) (decide (eqb i j))
-bind-forward i (suc j) out (writing q) f =
-    ⊎-elim
-    (λ (e : eqb i j ≡ true). rw e f)
-    (λ (e : eqb i j ≡ false). rw e (link-forward j i q (link-forward i j out f)))
+bind-forward {how = how} i (suc j) out o f =
+    ⊎-elim (λ (e : eqb i j ≡ true). rw e f) (λ (e : eqb i j ≡ false). rw e (tie-forward how i j out o f))
     (decide (eqb i j))
 
 pub binds-forward : {p : ℕ → Bool} {how : ℕ → Binding} {tag : ℕ → ℕ} {d : Links} (i : ℕ) (bs : List ℕ) → p i ≡ false

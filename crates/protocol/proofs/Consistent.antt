@@ -1,5 +1,6 @@
 -- The invariant of the ledger, kept by every step: the order of writes and links in each cell, reads, open commits.
-use Prim.Native.Nat.{ℕ, _+_, _/_, _≤_, _<_}
+use Prim.Native.Nat.{ℕ, _+_, _*_, _/_, _≤_, _<_}
+use native.Mathlib.Nat.{div-mul-le-self, lt-div-mul-add}
 use mathlib.Core.Path.{_≡_, refl, sym, _∙_, ap, subst}
 use mathlib.Core.Bool.{Bool, true, false, _&&_, not}
 use mathlib.Core.List.{List, [], _∷_, map}
@@ -8,20 +9,20 @@ use mathlib.Core.Logic.{⊎-elim}
 use lib.Dec.{eqb, ltb, leb}
 use lib.ListN.{length}
 use native.Mathlib.Omega.{arith}
-use borrow.Author.Tests.{leb-true, ltb-true, lt-ltb}
+use borrow.Author.Tests.{leb-true, ltb-true, lt-ltb, le-leb}
 use Rattle.boards.specs.Lists.{span, anyOf, select}
 use Rattle.boards.specs.Boards.{has, meets, Links, unlinked, link, unlink, Chain, here}
-use Rattle.protocol.specs.Accesses.{touched, read-binding, write-binding, bind-blocks}
+use Rattle.protocol.specs.Accesses.{touched, whole, read-binding, write-binding, bind-blocks}
 use Rattle.protocol.specs.declared.Binding.{Binding}
 use Rattle.protocol.specs.Ledger.{Access, Fate, pending, kept, undone, Wrote, Read-from, Note, Open-commit}
 use Rattle.protocol.specs.Ledger.{Ledger, blank}
 use Rattle.protocol.specs.Ledger.{is-pending, covers, written, sources-of, wrote-in, writer, source, settled}
 use Rattle.protocol.specs.Ledger.{cleared, all-undone, noted, started, acknowledged-by, with-context, decided}
 use Rattle.protocol.specs.Ledger.{reads-undone}
-use Rattle.protocol.specs.Dependences.{width, is-write, came-upon, depends-by-notes}
+use Rattle.protocol.specs.Dependences.{width, is-write, wrote-all, came-upon, depends-by-notes}
 use Rattle.protocol.specs.declared.Shape.{Shape}
 use Rattle.boards.proofs.Basics.{decide, clash, refute, and-true, true-and, and-false, All, none, also, all-map}
-use Rattle.boards.proofs.Basics.{all-mapped, anyOf-false, length-span, all-span}
+use Rattle.boards.proofs.Basics.{all-mapped, anyOf-false, length-span, all-span, every-at, false-not}
 use Rattle.boards.proofs.Groups.{Forward, Backward, Bounded, bounded-more, unlink-true, unlink-bounded}
 use Rattle.boards.proofs.Groups.{links-ext, unlinked-bounded, commit-group-forward}
 use Rattle.protocol.proofs.Marks.{settle, untag, Ends, mark, marks, To, to, From, from, Above, Top, Kept-order}
@@ -30,7 +31,8 @@ use Rattle.protocol.proofs.Marks.{writer-settled, keeps, undoes, At, So
 use Rattle.protocol.proofs.Soundness.{Good, Backed, by-none, by-kept, by-pending, backed, good-more, good-commit}
 use Rattle.protocol.proofs.Soundness.{good-rollback, untainted}
 use Rattle.protocol.proofs.Accesses.{cell-touched, all-found, binds-wider, binds-from, binds-to, binds-bounded}
-use Rattle.protocol.proofs.Dependences.{Narrow, all-bind, writes-bind, goes-forth, goes-back, depends-settled}
+use Rattle.protocol.proofs.Accesses.{goes-forth, goes-back, whole-bounds, write-forth, write-back}
+use Rattle.protocol.proofs.Dependences.{Narrow, parts-bind, writes-bind, whole-cells, depends-settled}
 use Rattle.protocol.proofs.Dependences.{depends-noted}
 use Rattle.protocol.proofs.Accesses.{binds-forward, Outside, from-more, to-more}
 
@@ -140,6 +142,13 @@ read-covers i a x f os =
     let hi = ltb-true x (a + 0) (both .1) in
     omega arith)
 
+-- and leaves every cell of a block as it was
+read-leaves : (s : Shape) (b i a : ℕ) (f : Fate) (os : List (Option ℕ)) → 0 < s .size
+    → wrote-all s (record { board = i; cell = a; access = Read-from os; fate = f }) b ≡ false
+unfolding wrote-all
+read-leaves s b i a f os positive =
+    refute _ (λ e. clash (every-at (s .size) _ e 0 positive) (read-covers i a (b * s .size + 0) f os))
+
 module _ {s : Shape} {l : Ledger} (c : Consistent s l) {how : ℕ → Binding} {i a n : ℕ} (ok : Access-ok s how i a n l)
   where
     linked : Links
@@ -176,7 +185,7 @@ module _ {s : Shape} {l : Ledger} (c : Consistent s l) {how : ℕ → Binding} {
       abbrev new-note : Note
       new-note = record { board = i; cell = a; access = access; fate = pending }
 
-      linked-told : ((b : ℕ) → goes-forth (how b) ≡ all-bind new-note b)
+      linked-told : ((b : ℕ) → goes-forth (how b) ≡ parts-bind s new-note b)
           → ((b : ℕ) → goes-back (how b) ≡ writes-bind new-note b) → (x y : ℕ)
           → linked x y ≡ depends-by-notes s (new-note ∷ l .notes) x y
       unfolding linked is-pending
@@ -193,8 +202,8 @@ module _ {s : Shape} {l : Ledger} (c : Consistent s l) {how : ℕ → Binding} {
           to-writer to-board x y)
 
     -- a cell of a touched block: what is known of its tag
-    tag-from : (x : ℕ) → anyOf (eqb (x / s .size)) (touched s a n) ≡ true → (m : ℕ)
-        → From (l .links) m (writer s (l .notes) (x / s .size)) → Chain linked i m
+    tag-from : (x : ℕ) → anyOf (eqb (x / s .size)) (touched s a n) ≡ true → goes-forth (how (x / s .size)) ≡ true
+        → (m : ℕ) → From (l .links) m (writer s (l .notes) (x / s .size)) → Chain linked i m
     unfolding linked
     tag-from x h =
         all-found (x / s .size) (touched s a n)
@@ -202,9 +211,10 @@ module _ {s : Shape} {l : Ledger} (c : Consistent s l) {how : ℕ → Binding} {
 
     -- a read's note
     source-backed : (os : List (Option ℕ)) (x : ℕ) → anyOf (eqb (x / s .size)) (touched s a n) ≡ true
+        → goes-forth (how (x / s .size)) ≡ true
         → Backed linked (record { board = i; cell = a; access = Read-from os; fate = pending } ∷ l .notes)
         (record { board = i; cell = a; access = Read-from os; fate = pending }) (source (l .notes) x)
-    source-backed os x h = go (source (l .notes) x) refl
+    source-backed os x h d = go (source (l .notes) x) refl
       where
         new : Note
         new = record { board = i; cell = a; access = Read-from os; fate = pending }
@@ -212,7 +222,7 @@ module _ {s : Shape} {l : Ledger} (c : Consistent s l) {how : ℕ → Binding} {
         by : {k : ℕ} → Sourced (l .links) (writer s (l .notes) (x / s .size)) (l .notes) k
             → Backed linked (new ∷ l .notes) new (some k)
         by (on-kept w e) = by-kept (At.older w) e
-        by (on-pending w e f) = by-pending (At.older w) e refl (tag-from x h _ f)
+        by (on-pending w e f) = by-pending (At.older w) e refl (tag-from x h d _ f)
 
         go : (o : Option ℕ) → source (l .notes) x ≡ o → Backed linked (new ∷ l .notes) new o
         go none e = by-none
@@ -232,11 +242,13 @@ module _ {s : Shape} {l : Ledger} (c : Consistent s l) {i a n : ℕ} (ok : Acces
         reads =
             also
             (backed (all-span (source (l .notes)) a n (λ x lo hi.
-            source-backed c ok os x (cell-touched s a n x (ok .positive) (ok .few) lo hi))))
+            source-backed c ok os x (cell-touched s a n x (ok .positive) (ok .few) lo hi) refl)))
             (older-reads c ok new);
         closed = linked-closed c ok;
         narrow = also {x = new} (let few = ok .few in omega (arith, wide)) (c .narrow);
-        told = linked-told c ok (Read-from os) wide (λ b. refl) (λ b. refl);
+        told =
+            linked-told c ok (Read-from os) wide
+            (λ b. sym (ap not (read-leaves s b i a pending os (ok .positive)))) (λ b. refl);
       }
 
 module _ {s : Shape} {l : Ledger} (c : Consistent s l) {i a : ℕ} (bytes : List ℕ)
@@ -264,11 +276,11 @@ module _ {s : Shape} {l : Ledger} (c : Consistent s l) {i a : ℕ} (bytes : List
 
   tag-to : (x : ℕ) → anyOf (eqb (x / s .size)) (touched s a (length bytes)) ≡ true → (m : ℕ)
       → To (l .links) m (writer s (l .notes) (x / s .size)) → Chain (linked c ok) m i
-  unfolding linked write-binding
+  unfolding linked
   tag-to x h =
       all-found (x / s .size) (touched s a (length bytes))
       (binds-to (write-binding s a (length bytes)) (writer s (l .notes)) (l .links) i
-      (touched s a (length bytes))) h refl
+      (touched s a (length bytes))) h (write-back s a (length bytes) (x / s .size))
 
   -- a cell of a touched block, covered or not
   covered : (x : ℕ) → anyOf (eqb (x / s .size)) (touched s a (length bytes)) ≡ true → covers new-write x ≡ true
@@ -281,6 +293,17 @@ module _ {s : Shape} {l : Ledger} (c : Consistent s l) {i a : ℕ} (bytes : List
         top = Top.at-waits (from here);
       })
 
+  -- a cell that is not covered lies in no block overwritten whole
+  leaves : (x : ℕ) → covers new-write x ≡ false → goes-forth (write-binding s a (length bytes) (x / s .size)) ≡ true
+  unfolding covers new-write written
+  leaves x e =
+      write-forth s a (length bytes) (x / s .size)
+      ∙ false-not (refute (whole s a (length bytes) (x / s .size)) (λ h.
+      let both = whole-bounds s a (length bytes) (x / s .size) h in
+      let low = div-mul-le-self x (s .size) in
+      let high = lt-div-mul-add {a = x} {b = s .size} (ok .positive) in
+      clash (true-and (le-leb a x (omega (arith, both))) (lt-ltb x (a + length bytes) (omega (arith, both)))) e))
+
   beside : (x : ℕ) → anyOf (eqb (x / s .size)) (touched s a (length bytes)) ≡ true → covers new-write x ≡ false
       → Kept-order (linked c ok) (writer s (new-write ∷ l .notes) (x / s .size)) (marks (new-write ∷ l .notes) x)
   unfolding writer marks mark is-pending new-write
@@ -288,7 +311,7 @@ module _ {s : Shape} {l : Ledger} (c : Consistent s l) {i a : ℕ} (bytes : List
       rw (write-touches x h, e)
       (record {
         above = above-map (λ m r. to (tag-to x h m r)) (c .order x .above);
-        top = top-map (λ m r. from (tag-from c ok x h m r)) (c .order x .top);
+        top = top-map (λ m r. from (tag-from c ok x h (leaves x e) m r)) (c .order x .top);
       })
 
   elsewhere : (x : ℕ) → anyOf (eqb (x / s .size)) (touched s a (length bytes)) ≡ false
@@ -306,8 +329,9 @@ module _ {s : Shape} {l : Ledger} (c : Consistent s l) {i a : ℕ} (bytes : List
       (decide (anyOf (eqb (x / s .size)) (touched s a (length bytes))))
 
   pub noted-write : Consistent s (noted s (write-binding s a (length bytes)) i a (length bytes) (Wrote bytes) l)
-  unfolding noted new-write linked sources-of width write-binding goes-forth goes-back is-write
+  unfolding noted new-write linked sources-of width is-write written
   noted-write =
+      let n = length bytes in
       record {
         bounded = linked-bounded c ok;
         boards = also (ok .board) (c .boards);
@@ -315,7 +339,9 @@ module _ {s : Shape} {l : Ledger} (c : Consistent s l) {i a : ℕ} (bytes : List
         reads = also (backed none) (older-reads c ok new-write);
         closed = linked-closed c ok;
         narrow = also (ok .few) (c .narrow);
-        told = linked-told c ok (Wrote bytes) refl (λ b. refl) (λ b. refl);
+        told =
+            linked-told c ok (Wrote bytes) refl
+            (λ b. write-forth s a n b ∙ ap not (whole-cells s new-write b (ok .positive))) (write-back s a n);
       }
 
 -- ---- commits

@@ -104,7 +104,7 @@ faithful {s} w (c ∷ cs) i r =
 
 -- ---- the beginning
 
-formatted-on : (s : Shape) (image : List ℕ) (r : Record) (k : ℕ) → verdict (format s image r k) ≡ done
+pub formatted-on : (s : Shape) (image : List ℕ) (r : Record) (k : ℕ) → verdict (format s image r k) ≡ done
     → Invariant s (formatted s image r k)
 unfolding formatted blank rank unlinked marks live saved writer fresh closed
 formatted-on s image r k v =

@@ -1,31 +1,32 @@
 -- The ledger's links against the notes: what settling notes and noting an access do to the links told from the notes.
-use Prim.Native.Nat.{ℕ, zero, suc, _+_, _-_, _/_, _≤_, _<_}
+use Prim.Native.Nat.{ℕ, zero, suc, _+_, _-_, _*_, _/_, _≤_, _<_}
 use mathlib.Core.Path.{_≡_, refl, sym, _∙_, ap, ap₂, fun-ext}
-use mathlib.Core.Bool.{Bool, true, false, _&&_, _||_, not, cond, and-assoc, or-assoc, or-comm, or-false}
+use mathlib.Core.Bool.{Bool, true, false, _&&_, _||_, not, cond, and-assoc, and-comm, or-assoc, or-comm, or-false}
 use mathlib.Core.List.{List, [], _∷_, map}
 use mathlib.Core.Logic.{⊎-elim}
-use lib.Dec.{eqb, ltb}
+use lib.Dec.{eqb, ltb, leb}
 use lib.ListN.{length}
 use native.Mathlib.Omega.{arith}
-use borrow.Author.Tests.{eq-eqb, ne-eqb, eqb-true, eqb-false, ltb-true, ltb-false}
-use Rattle.boards.specs.Lists.{any, anyOf}
+use borrow.Author.Tests.{eq-eqb, ne-eqb, eqb-true, eqb-false, ltb-true, ltb-false, lt-ltb, le-leb, leb-true}
+use Rattle.boards.specs.Lists.{any, every, anyOf}
 use Rattle.boards.specs.Boards.{Links, link, unlink}
-use Rattle.protocol.specs.Accesses.{touched, bind-boards, bind-tag, bind-blocks}
+use Rattle.protocol.specs.Accesses.{touched, whole, bind-boards, bind-tag, bind-blocks}
 use Rattle.protocol.specs.declared.Binding.{Binding}
-use Rattle.protocol.specs.declared.Binding.the-variants.{OneWay, TwoWay}
+use Rattle.protocol.specs.declared.Binding.the-variants.{OneWay, TwoWay, Opposite}
 use Rattle.protocol.specs.Ledger.{Fate, pending, kept, undone, Access, Wrote, Read-from, Note, is-pending}
-use Rattle.protocol.specs.Ledger.{written, wrote-in, writer, settled}
-use Rattle.protocol.specs.Dependences.{width, is-write, in-blocks, last-by, came-upon}
+use Rattle.protocol.specs.Ledger.{written, covers, wrote-in, writer, settled}
+use Rattle.protocol.specs.Dependences.{width, is-write, in-blocks, wrote-all, last-by, came-upon}
 use Rattle.protocol.specs.Dependences.{depends-by-notes}
 use Rattle.protocol.specs.declared.Shape.{Shape}
 use Rattle.boards.proofs.Basics.{decide, clash, and-true, true-and, and-false, or-true, eqb-comm}
 use Rattle.boards.proofs.Basics.{not-true, refute, test-ext, some-any, any-some, none-any, All, none, also, false-anyOf}
-use Rattle.protocol.proofs.Accesses.{cell-touched, all-found}
+use Rattle.boards.proofs.Basics.{every-at, every-all}
+use Rattle.protocol.proofs.Accesses.{cell-touched, all-found, whole-bounds, goes-forth, goes-back}
 use Rattle.protocol.proofs.Marks.{Ends, keeps, undoes}
 
 -- which access binds its board to the writer in a block, and which the writer to its board
-abbrev pub all-bind : Note → ℕ → Bool
-all-bind n b = true
+abbrev pub parts-bind : Shape → Note → ℕ → Bool
+parts-bind s n b = not (wrote-all s n b)
 
 abbrev pub writes-bind : Note → ℕ → Bool
 writes-bind n b = is-write (n .access)
@@ -88,6 +89,27 @@ touched-cells s a n p positive some few =
     let in-range = x .1 in
     anyOf-found p ((a + x .0) / s .size) (touched s a n)
     (cell-touched s a n (a + x .0) positive few (omega arith) (omega arith)) (x .2))
+
+-- a note overwrote the whole of block b: it wrote every cell of it
+pub whole-cells : (s : Shape) (n : Note) (b : ℕ) → 0 < s .size
+    → whole s (n .cell) (length (written (n .access))) b ≡ wrote-all s n b
+unfolding wrote-all covers
+whole-cells s n b positive =
+    let w = length (written (n .access)) in
+    let first = b * s .size in
+    let last = first + (s .size - 1) in
+    let hit : ℕ → Bool = λ x. covers n (first + x) in
+    test-ext (leb (n .cell) first && leb (first + s .size) (n .cell + w)) (every (s .size) hit)
+    (λ h.
+    let ends = whole-bounds s (n .cell) w b h in
+    every-all (s .size) hit (λ x l.
+    true-and (le-leb (n .cell) (first + x) (omega (arith, ends)))
+    (lt-ltb (first + x) (n .cell + w) (omega (arith, ends)))))
+    (λ h.
+    let low = and-true (leb (n .cell) (first + 0)) _ (every-at (s .size) hit h 0 positive) .0 in
+    let high = and-true (leb (n .cell) last) _ (every-at (s .size) hit h (s .size - 1) (omega arith)) .1 in
+    true-and (le-leb (n .cell) first (omega (arith, leb-true (n .cell) (first + 0) low)))
+    (le-leb (first + s .size) (n .cell + w) (omega (arith, ltb-true last (n .cell + w) high))))
 
 -- a note wrote in block b: one of its cells lies there
 wrote-in-cells : (s : Shape) (b : ℕ) (n : Note) → 0 < s .size → width (n .access) ≤ s .size
@@ -246,10 +268,11 @@ module _ (s : Shape) (p : ℕ → Bool) {f : Fate} (ends : Ends f) where
 
   pub depends-settled : (ns : List Note) (i j : ℕ)
       → depends-by-notes s (map (settled p f) ns) i j ≡ unlink p (depends-by-notes s ns) i j
-  unfolding depends-by-notes unlink settled
+  unfolding depends-by-notes unlink settled wrote-all covers
   depends-settled ns i j =
-      rw (came-settled all-bind (λ n b. refl) ns i j, came-settled writes-bind (λ n b. refl) ns j i)
-      (gather (not (eqb i j)) (not (p i)) (not (p j)) (came-upon all-bind s ns i j) (came-upon writes-bind s ns j i))
+      rw (came-settled (parts-bind s) (λ n b. refl) ns i j, came-settled writes-bind (λ n b. refl) ns j i)
+      (gather (not (eqb i j)) (not (p i)) (not (p j)) (came-upon (parts-bind s) s ns i j)
+      (came-upon writes-bind s ns j i))
     where
       gather : (e q r x y : Bool) → e && ((q && (r && x)) || (r && (q && y))) ≡ q && (r && (e && (x || y)))
       gather true true true x y = refl
@@ -261,14 +284,6 @@ module _ (s : Shape) (p : ℕ → Bool) {f : Fate} (ends : Ends f) where
       gather false false r x y = refl
 
 -- ---- an access noted is its blocks bound
-
-unfoldable pub goes-forth : Binding → Bool
-goes-forth OneWay = true
-goes-forth TwoWay = true
-
-unfoldable pub goes-back : Binding → Bool
-goes-back OneWay = false
-goes-back TwoWay = true
 
 -- whether board x comes to depend on y where board i binds itself to a tag's writer
 unfoldable pub binds-now : Binding → ℕ → ℕ → ℕ → ℕ → Bool
@@ -323,6 +338,11 @@ bind-other OneWay d i j x y e =
     right true b = refl
     right false true = refl
     right false false = refl
+bind-other Opposite d i j x y e =
+    link-eq d j i x y
+    ∙ ap (λ h. d x y || h) (apart j i x y (ne-eqb j i (λ q. eqb-false i j e (sym q)))
+    ∙ ap (λ h. not (eqb x y) && h)
+    (and-comm (eqb j x) (eqb i y) ∙ sym (ap (λ h. h || (eqb i y && eqb j x)) (and-false (eqb i x) refl))))
 bind-other TwoWay d i j x y e =
     link-eq (link d i j) j i x y
     ∙ ap₂ _||_ (link-eq d i j x y ∙ ap (λ h. d x y || h) (apart i j x y e))
@@ -367,7 +387,8 @@ bound-cells w e q r f g =
 module _ (s : Shape) (positive : 0 < s .size) (ns : List Note) (narrow : Narrow s ns) (n : Note)
     (waits : is-pending (n .fate) ≡ true) (some : 0 < width (n .access)) (few : width (n .access) ≤ s .size)
     (how : ℕ → Binding)
-    (to-writer : (b : ℕ) → goes-forth (how b) ≡ all-bind n b) (to-board : (b : ℕ) → goes-back (how b) ≡ writes-bind n b)
+    (to-writer : (b : ℕ) → goes-forth (how b) ≡ parts-bind s n b)
+    (to-board : (b : ℕ) → goes-back (how b) ≡ writes-bind n b)
   where
     abbrev touches : List ℕ
     touches = touched s (n .cell) (width (n .access))
@@ -375,7 +396,7 @@ module _ (s : Shape) (positive : 0 < s .size) (ns : List Note) (narrow : Narrow 
     bound-now : (x y : ℕ)
         → anyOf (λ b. binds-now (how b) (n .board) (writer s ns b) x y) touches
         ≡ not (eqb x y)
-        && ((eqb (n .board) x && in-blocks s n (λ b. all-bind n b && last-by s ns y b))
+        && ((eqb (n .board) x && in-blocks s n (λ b. parts-bind s n b && last-by s ns y b))
         || (eqb (n .board) y && in-blocks s n (λ b. writes-bind n b && last-by s ns x b)))
     unfolding binds-now in-blocks
     bound-now x y =
@@ -384,7 +405,7 @@ module _ (s : Shape) (positive : 0 < s .size) (ns : List Note) (narrow : Narrow 
         let b = (n .cell + c) / s .size in
         rw (to-writer b, to-board b, writer-last s positive ns narrow y b, writer-last s positive ns narrow x b))
         ∙ bound-cells (width (n .access)) (not (eqb x y)) (eqb (n .board) x) (eqb (n .board) y)
-        (λ c. let b = (n .cell + c) / s .size in all-bind n b && last-by s ns y b)
+        (λ c. let b = (n .cell + c) / s .size in parts-bind s n b && last-by s ns y b)
         (λ c. let b = (n .cell + c) / s .size in writes-bind n b && last-by s ns x b)
 
     pub depends-noted : (x y : ℕ)
@@ -395,8 +416,8 @@ module _ (s : Shape) (positive : 0 < s .size) (ns : List Note) (narrow : Narrow 
         binds-eq how (writer s ns) (depends-by-notes s ns) (n .board) touches x y
         ∙ ap (λ h. depends-by-notes s ns x y || h) (bound-now x y)
         ∙ rw waits
-        (gather (not (eqb x y)) (came-upon all-bind s ns x y) (came-upon writes-bind s ns y x)
-        (eqb (n .board) x && in-blocks s n (λ b. all-bind n b && last-by s ns y b))
+        (gather (not (eqb x y)) (came-upon (parts-bind s) s ns x y) (came-upon writes-bind s ns y x)
+        (eqb (n .board) x && in-blocks s n (λ b. parts-bind s n b && last-by s ns y b))
         (eqb (n .board) y && in-blocks s n (λ b. writes-bind n b && last-by s ns x b)))
       where
         gather : (e a b x y : Bool) → (e && (a || b)) || (e && (x || y)) ≡ e && ((x || a) || (y || b))

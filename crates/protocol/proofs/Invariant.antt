@@ -21,7 +21,6 @@ use Rattle.protocol.specs.Calls.{power-tests}
 use Rattle.protocol.specs.Calls.{acknowledging, bad-tags, bad-decision, plan, record-refused, blocks-copied}
 use Rattle.protocol.specs.Accesses.{touched, read-binding, write-binding}
 use Rattle.protocol.specs.declared.Binding.{Binding}
-use Rattle.protocol.specs.declared.Binding.the-variants.{TwoWay}
 use Rattle.protocol.specs.Ledger.{refused, done, undone, Note, Open-commit, Ledger, writer}
 use Rattle.protocol.specs.Ledger.{source, sources-of, decides-now, noted, started, cleared, all-undone}
 use Rattle.protocol.specs.Ledger.{commit-effect, effect, update}
@@ -136,13 +135,13 @@ all-reading (b ∷ bs) = also reading (all-reading bs)
 -- a write to blocks of which no tag names one of g
 untied : (s : Shape) (g a n : ℕ) (tag tag′ : ℕ → ℕ) (bs : List ℕ) → All (λ b. tag b ≡ tag′ b) bs
     → anyOf (tagged-in g) (map tag bs) ≡ false → All (λ b. Outside (has g) (write-binding s a n b) (tag′ b)) bs
-unfolding write-binding tagged-in anyOf
+unfolding tagged-in anyOf
 untied s g a n tag tag′ [] none e = none
 untied s g a n tag tag′ (b ∷ bs) (also same rest) e =
     let both = or-false (tagged-in g (tag b)) (anyOf (tagged-in g) (map tag bs)) e in
     also (outside (tag′ b) (ap (tagged-in g) (sym same) ∙ both .0)) (untied s g a n tag tag′ bs rest (both .1))
   where
-    outside : (t : ℕ) → tagged-in g t ≡ false → Outside (has g) TwoWay t
+    outside : {how : Binding} (t : ℕ) → tagged-in g t ≡ false → Outside (has g) how t
     outside zero e = untagged
     outside (suc j) e = writing e
 

@@ -18,7 +18,7 @@ use Rattle.volatile.specs.Volatile.{closed, fresh, depends, engaged, commit-of,
 use Rattle.volatile.specs.Volatile.{acknowledge, bad-record, off}
 use Rattle.protocol.specs.Accesses.{touched, bind-boards, bind-tag, bind-blocks}
 use Rattle.protocol.specs.declared.Binding.{Binding}
-use Rattle.protocol.specs.declared.Binding.the-variants.{OneWay, TwoWay}
+use Rattle.protocol.specs.declared.Binding.the-variants.{OneWay, TwoWay, Opposite}
 use Rattle.protocol.specs.Accesses.{read-binding, write-binding}
 use Rattle.protocol.specs.Calls.{Request, Read, Write, Start, Acknowledge, Fault, Power-up, Test, test, first}
 use Rattle.protocol.specs.Calls.{refusals, entry-tests, read-tests, write-tests, start-tests, acknowledge-tests}
@@ -129,21 +129,22 @@ left-small r g l =
     (decide (meets (r .commit .members) (has g)))
 
 -- blocks bound, of which no tag is above p
+tie-order : {p i j : ℕ} → i < p → j < p → i ≢ j → (how : Binding) (r : Record) → Orderly p r
+    → Orderly p (bind-boards depend how r i j)
+unfolding bind-boards
+tie-order l k apart OneWay r o = depend-order r l k apart o
+tie-order {i = i} {j} l k apart TwoWay r o =
+    depend-order (depend r i j) k l (λ q. apart (sym q)) (depend-order r l k apart o)
+tie-order l k apart Opposite r o = depend-order r k l (λ q. apart (sym q)) o
+
 bind-order : {p i : ℕ} → i < p → (how : Binding) (r : Record) (t : ℕ) → t ≤ p → Orderly p r
     → Orderly p (bind-tag depend how r i t)
-unfolding bind-tag bind-boards
+unfolding bind-tag
 bind-order l how r zero k o = o
-bind-order {i = i} l OneWay r (suc j) k o =
+bind-order {i = i} l how r (suc j) k o =
     ⊎-elim
     (λ (e : eqb i j ≡ true). rw e o)
-    (λ (e : eqb i j ≡ false). rw e (depend-order r l k (eqb-false i j e) o))
-    (decide (eqb i j))
-bind-order {i = i} l TwoWay r (suc j) k o =
-    ⊎-elim
-    (λ (e : eqb i j ≡ true). rw e o)
-    (λ (e : eqb i j ≡ false).
-    let apart = eqb-false i j e in
-    rw e (depend-order (depend r i j) k l (λ q. apart (sym q)) (depend-order r l k apart o)))
+    (λ (e : eqb i j ≡ false). rw e (tie-order l k (eqb-false i j e) how r o))
     (decide (eqb i j))
 
 binds-order : {p i : ℕ} → i < p → (how : ℕ → Binding) (tag : ℕ → ℕ) (r : Record) (bs : List ℕ)
@@ -375,7 +376,7 @@ module _ (image : List ℕ) (r : Record) (small : r .commit .acknowledged < 2 ^ 
       power-keeps s m r (limits s (sound .0 .allowed-shape)) few
 
 -- a done call was not refused
-done-taken : (image : List ℕ) (r : Record) (request : Request) (k : ℕ) → verdict (perform image r request k) ≡ done
+pub done-taken : (image : List ℕ) (r : Record) (request : Request) (k : ℕ) → verdict (perform image r request k) ≡ done
     → refusal-at image r request ≡ 0
 done-taken image r request k v =
     let n = refusal-at image r request in

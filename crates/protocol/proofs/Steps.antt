@@ -17,7 +17,7 @@ use Rattle.protocol.specs.Image.{after, cells}
 use Rattle.volatile.specs.Volatile.{closed, depends, left-open, depend, clear}
 use Rattle.protocol.specs.Accesses.{touched, read-binding, write-binding, bind-boards}
 use Rattle.protocol.specs.declared.Binding.{Binding}
-use Rattle.protocol.specs.declared.Binding.the-variants.{OneWay, TwoWay}
+use Rattle.protocol.specs.declared.Binding.the-variants.{OneWay, TwoWay, Opposite}
 use Rattle.protocol.specs.Accesses.{bind-tag, bind-blocks}
 use Rattle.protocol.specs.Calls.{placing, tagging, blocks-copied}
 use Rattle.protocol.specs.Ledger.{pending, undone, Wrote, Read-from, Note, Ledger, is-pending, covers, written}
@@ -30,6 +30,7 @@ use Rattle.boards.proofs.Groups.{Backward, Bounded, bounded-more, link-bounded,
 use Rattle.volatile.proofs.Records.{depends-depend, depends-clear}
 use Rattle.protocol.proofs.Marks.{mark, marks, live, saved, marks-settled, writer-settled, undoes}
 use Rattle.protocol.proofs.Marks.{rollback-same, rollback-saved}
+use Rattle.protocol.proofs.Accesses.{bind-bounded}
 use Rattle.protocol.proofs.Consistent.{Access-ok, writer-below, read-covers, noted-read, noted-write}
 use Rattle.protocol.proofs.Consistent.{cleared-rollback}
 use Rattle.protocol.proofs.Copies.{copied, placing-other, placing-outside, placing-whole}
@@ -41,25 +42,21 @@ use Rattle.protocol.proofs.Agreement.{On, agrees-clear, tag-noted, unta
 -- linking in the record is linking of its dependences
 module _ {i : ℕ} (small : i < 16) where
   depends-tie : (how : Binding) (r : Record) (j : ℕ) → j < 16 → Bounded 16 (depends r)
-      → (depends (bind-boards depend how r i j) ≡ bind-boards link how (depends r) i j) × Bounded 16
-      (depends (bind-boards depend how r i j))
+      → depends (bind-boards depend how r i j) ≡ bind-boards link how (depends r) i j
   unfolding bind-boards
-  depends-tie OneWay r j l b =
-      let one = depends-depend r b small l in
-      (one, subst (λ d. Bounded 16 d) (sym one) (link-bounded b small l))
+  depends-tie OneWay r j l b = depends-depend r b small l
   depends-tie TwoWay r j l b =
       let one = depends-depend r b small l in
-      let b₁ = subst (λ d. Bounded 16 d) (sym one) (link-bounded b small l) in
-      let two = depends-depend (depend r i j) b₁ l small ∙ ap (λ d. link d j i) one in
-      (two, subst (λ d. Bounded 16 d) (sym two) (link-bounded (link-bounded b small l) l small))
+      depends-depend (depend r i j) (subst (λ d. Bounded 16 d) (sym one) (link-bounded b small l)) l small
+      ∙ ap (λ d. link d j i) one
+  depends-tie Opposite r j l b = depends-depend r b l small
 
   depends-bind : (how : Binding) (r : Record) (t : ℕ) → t ≤ 16 → Bounded 16 (depends r)
-      → (depends (bind-tag depend how r i t) ≡ bind-tag link how (depends r) i t) × Bounded 16
-      (depends (bind-tag depend how r i t))
+      → depends (bind-tag depend how r i t) ≡ bind-tag link how (depends r) i t
   unfolding bind-tag
-  depends-bind how r zero l b = (refl, b)
+  depends-bind how r zero l b = refl
   depends-bind how r (suc j) l b =
-      ⊎-elim (λ (e : eqb i j ≡ true). rw e (refl, b)) (λ (e : eqb i j ≡ false). rw e (depends-tie how r j l b))
+      ⊎-elim (λ (e : eqb i j ≡ true). rw e) (λ (e : eqb i j ≡ false). rw e (depends-tie how r j l b))
       (decide (eqb i j))
 
   pub depends-binds : (how : ℕ → Binding) (tag : ℕ → ℕ) (r : Record) (bs : List ℕ) → ((b : ℕ) → tag b ≤ 16)
@@ -69,14 +66,16 @@ module _ {i : ℕ} (small : i < 16) where
   depends-binds how tag r [] l b = refl
   depends-binds how tag r (c ∷ bs) l b =
       let one = depends-bind (how c) r (tag c) (l c) b in
-      depends-binds how tag (bind-tag depend (how c) r i (tag c)) bs l (one .1)
-      ∙ ap (λ d. bind-blocks link how tag d i bs) (one .0)
+      let few = subst (λ d. Bounded 16 d) (sym one) (bind-bounded small (how c) (depends r) (tag c) (l c) b) in
+      depends-binds how tag (bind-tag depend (how c) r i (tag c)) bs l few
+      ∙ ap (λ d. bind-blocks link how tag d i bs) one
 
 -- it leaves the open commit alone
 commit-tie : (how : Binding) (r : Record) (i j : ℕ) → bind-boards depend how r i j .commit ≡ r .commit
 unfolding bind-boards depend
 commit-tie OneWay r i j = refl
 commit-tie TwoWay r i j = refl
+commit-tie Opposite r i j = refl
 
 commit-bind : (how : Binding) (r : Record) (i t : ℕ) → bind-tag depend how r i t .commit ≡ r .commit
 unfolding bind-tag

@@ -1,12 +1,12 @@
 -- What calls and ledger share of an access: the blocks that it touches, and how it binds boards
--- (document 01, "Accesses").
-use Prim.Native.Nat.{ℕ, zero, suc, _+_, _-_, _/_}
-use mathlib.Core.Bool.{cond}
+-- (document 01, "Accesses"; document 02, Req 01).
+use Prim.Native.Nat.{ℕ, zero, suc, _+_, _-_, _*_, _/_}
+use mathlib.Core.Bool.{Bool, _&&_, cond}
 use mathlib.Core.List.{List, [], _∷_}
-use lib.Dec.{eqb}
+use lib.Dec.{eqb, leb}
 use Rattle.protocol.specs.declared.Shape.{Shape}
 use Rattle.protocol.specs.declared.Binding.{Binding}
-use Rattle.protocol.specs.declared.Binding.the-variants.{OneWay, TwoWay}
+use Rattle.protocol.specs.declared.Binding.the-variants.{OneWay, TwoWay, Opposite}
 
 -- the blocks that n cells from a on touch, if n is not 0: the first, and the last if it is another
 unfoldable pub touched : Shape → ℕ → ℕ → List ℕ
@@ -15,21 +15,26 @@ touched s a n =
     let last = (a + n - 1) / s .size in
     first ∷ cond (eqb first last) [] (last ∷ [])
 
--- A read makes the board depend on the writer; a write, of n cells from a on, makes them depend on each other. Both do
--- so alike in every block b.
+-- whether the n cells from a on include every cell of block b
+abbrev pub whole : Shape → ℕ → ℕ → ℕ → Bool
+whole s a n b = leb a (b * s .size) && leb (b * s .size + s .size) (a + n)
+
+-- Board i accesses block b, whose tag is that of another board j. A read makes i depend on j. A write of n cells from a
+-- on makes each depend on the other; if it covers the whole block, it makes only j depend on i.
 unfoldable pub read-binding : ℕ → Binding
 read-binding b = OneWay
 
 unfoldable pub write-binding : Shape → ℕ → ℕ → ℕ → Binding
-write-binding s a n b = TwoWay
+write-binding s a n b = cond (whole s a n b) Opposite TwoWay
 
 -- Binding, for the record and for the ledger alike: X holds dependences, and link adds one to them.
 module _ {X : Type 0} (link : X → ℕ → ℕ → X) where
   unfoldable pub bind-boards : Binding → X → ℕ → ℕ → X
   bind-boards OneWay x i j = link x i j
   bind-boards TwoWay x i j = link (link x i j) j i
+  bind-boards Opposite x i j = link x j i
 
-  -- an access by board i to a block with this tag: 0 for no writer, j + 1 for writer j
+  -- an access by board i to a block with this tag: 0 for no active writer, j + 1 for writer j
   unfoldable pub bind-tag : Binding → X → ℕ → ℕ → X
   bind-tag how x i zero = x
   bind-tag how x i (suc j) = cond (eqb i j) x (bind-boards how x i j)

@@ -1,12 +1,12 @@
--- The links between boards by the notes alone (document 01, "Accesses" and "The ledger"), with no word by which calls
--- and ledger make, find or drop a link.
-use Prim.Native.Nat.{ℕ, _+_, _/_}
+-- The links between boards by the notes alone (document 01, "Accesses" and "The ledger"; document 02, Req 01). Calls
+-- and ledger make, find and drop a link by other words; only notes, `is-pending` and `covers` are those of the ledger.
+use Prim.Native.Nat.{ℕ, _+_, _*_, _/_}
 use mathlib.Core.Bool.{Bool, true, false, _&&_, _||_, not, cond}
 use mathlib.Core.List.{List, [], _∷_}
 use lib.Dec.{eqb}
 use lib.ListN.{length}
-use Rattle.boards.specs.Lists.{any}
-use Rattle.protocol.specs.Ledger.{Access, Wrote, Read-from, Note, is-pending}
+use Rattle.boards.specs.Lists.{any, every}
+use Rattle.protocol.specs.Ledger.{Access, Wrote, Read-from, Note, is-pending, covers}
 use Rattle.protocol.specs.declared.Shape.{Shape}
 
 -- how many cells an access has; whether it is a write
@@ -22,6 +22,10 @@ is-write (Read-from sources) = false
 unfoldable pub in-blocks : Shape → Note → (ℕ → Bool) → Bool
 in-blocks s n p = any (width (n .access)) (λ x. p ((n .cell + x) / s .size))
 
+-- whether a note wrote every cell of block b
+unfoldable pub wrote-all : Shape → Note → ℕ → Bool
+wrote-all s n b = every (s .size) (λ x. covers n (b * s .size + x))
+
 -- whether the newest write of these notes in block b is by board j and still pending
 unfoldable pub last-by : Shape → List Note → ℕ → ℕ → Bool
 last-by s [] j b = false
@@ -35,8 +39,9 @@ came-upon binds s (n ∷ ns) i j =
     (is-pending (n .fate) && (eqb (n .board) i && in-blocks s n (λ b. binds n b && last-by s ns j b)))
     || came-upon binds s ns i j
 
--- Board i depends on another board j: a still pending access of i came upon a still pending write of j, or a still
--- pending write of j upon a still pending write of i. Every access binds its board to the writer; a write binds both.
+-- Board i depends on another board j: a still pending access of i came upon a still pending write of j and did not
+-- write the whole block, or a still pending write of j came upon a still pending write of i.
 unfoldable pub depends-by-notes : Shape → List Note → ℕ → ℕ → Bool
 depends-by-notes s notes i j =
-    not (eqb i j) && (came-upon (λ n b. true) s notes i j || came-upon (λ n b. is-write (n .access)) s notes j i)
+    not (eqb i j)
+    && (came-upon (λ n b. not (wrote-all s n b)) s notes i j || came-upon (λ n b. is-write (n .access)) s notes j i)

@@ -9,11 +9,12 @@ pub struct Shape {
     pub context: usize,
 }
 
-// How an access binds its board to the active writer of a block: the board comes to depend on the writer, or they come
-// to depend on each other.
+// How an access of board i binds it and another board j, the block's active writer: i comes to depend on j, each on the
+// other, or j on i (document 004's "opposite dependency").
 pub enum Binding {
     OneWay,
     TwoWay,
+    Opposite,
 }
 
 // What a call answers: 0 for done, 9 for cut or the number of its refusal; whether it decided a commit;

@@ -1,9 +1,10 @@
--- `bind` meets its contract: nothing for no writer and for the board itself, else one link or one each way.
+-- `bind` meets its contract: nothing for no writer and for the board itself, else a link one way, each way or back.
 use Prim.Native.Nat.{suc, _<_}
 use mathlib.Core.Path.{_≡_, _∙_, ap}
 use native.Mathlib.Omega.{arith}
 use Rattle.boards.specs.Boards.{tag-of}
-use Rattle.protocol.specs.Accesses.{bind-boards}
+use Rattle.protocol.specs.Accesses.{bind-boards, bind-tag}
+use Rattle.protocol.specs.declared.Binding.{Binding}
 use Rattle.volatile.specs.Volatile.{depend}
 use Rattle.access.proofs.Laws.{bind-none, bind-own, bind-other}
 use Rattle.access.proofs.bind.Statement.{statement}
@@ -31,34 +32,34 @@ returns-2 c =
     let args = opened .before .before .before .args in
     bind-own (args .how) (args .state) (args .i) _ (named opened) (c .if1 .taken)
 
-depend-requires : tie.Need-depend-requires
-depend-requires c κs = let both = both-small (c .before .before) in (omega (arith, both), omega (arith, both))
-
-depend-requires-2 : tie.Need-depend-requires-2
-depend-requires-2 c κs =
-    let both = both-small (c .before .before .before .before .before) in
-    (omega (arith, both), omega (arith, both))
+-- the board and another writer, whatever the kind of binding
+other : (c : tie.Else1) (how : Binding) →
+    let opened = c .before .before in
+    let args = opened .before .before .before .args in
+    bind-boards depend how (args .state) (args .i) (opened .j .given .0 .0)
+    ≡ bind-tag depend how (args .state) (args .i) (args .tag)
+other c how =
+    let opened = c .before .before in
+    let args = opened .before .before .before .args in
+    bind-other how (args .state) (args .i) _ (named opened) (c .if1 .left)
 
 returns-3 : tie.Need-returns-3
 unfolding bind-boards
-returns-3 c =
-    let once = c .before .before in
-    let opened = once .before .before .before in
-    let args = opened .before .before .before .args in
-    once .depend .ensures
-    ∙ rw (c .enum-told2 .given .1)
-    (bind-other _ (args .state) (args .i) _ (named opened) (once .before .if1 .left))
+returns-3 c = c .depend .ensures ∙ rw (c .before .enum-told2 .given .1) (other (c .before .before .before) _)
 
 returns-4 : tie.Need-returns-4
 unfolding bind-boards
 returns-4 c =
-    let once = c .before .before .before in
-    let opened = once .before .before .before in
-    let args = opened .before .before .before .args in
-    c .depend2 .ensures
-    ∙ ap (λ r. depend r (opened .j .given .0 .0) (args .i)) (once .depend .ensures)
-    ∙ rw (c .before .enum-told3 .given .1)
-    (bind-other _ (args .state) (args .i) _ (named opened) (once .before .if1 .left))
+    let once = c .before in
+    let apart = once .before .before .before in
+    let opened = apart .before .before in
+    c .depend3 .ensures
+    ∙ ap (λ r. depend r (opened .j .given .0 .0) (opened .before .before .before .args .i)) (once .depend2 .ensures)
+    ∙ rw (once .before .enum-told3 .given .1) (other apart _)
+
+returns-5 : tie.Need-returns-5
+unfolding bind-boards
+returns-5 c = c .depend4 .ensures ∙ rw (c .before .enum-told4 .given .1) (other (c .before .before .before) _)
 
 pub bind-spec : {M : Type 1} → statement M
 bind-spec =
@@ -69,9 +70,14 @@ bind-spec =
     (λ c. omega arith)
     returns
     returns-2
-    depend-requires
     (λ c. omega arith)
+    (λ c κs. let both = both-small (c .before .before .before .before) in (omega (arith, both), omega (arith, both)))
     (λ c. omega arith)
-    depend-requires-2
+    (λ c κs. let both = both-small (c .before .before .before .before) in (omega (arith, both), omega (arith, both)))
+    (λ c κs. let both = both-small (c .before .before .before .before .before) in
+    (omega (arith, both), omega (arith, both)))
+    (λ c. omega arith)
+    (λ c κs. let both = both-small (c .before .before .before .before) in (omega (arith, both), omega (arith, both)))
     returns-3
-    returns-4)
+    returns-4
+    returns-5)

@@ -35,11 +35,13 @@ cast-i : tie.Need-cast-i
 cast-i c = omega (arith, small (known (c .before) .1 .entry))
 
 bind-requires : tie.Need-bind-requires
-bind-requires c κs = (small (known (c .before) .1 .entry), within (known (c .before) .1) .tag)
+bind-requires c κs =
+    let placed = known (c .before .before) .1 in
+    (small (placed .entry), within placed .tag)
 
 put-bytes-requires : tie.Need-put-bytes-requires
 put-bytes-requires c κs =
-    let placed = known (c .before .before .before .before) .1 in
+    let placed = known (c .before .before .before .before .before) .1 in
     (within placed .block, within placed .cells, small (placed .entry))
 
 finish-requires : tie.Need-finish-requires
@@ -52,11 +54,12 @@ returns-2 c =
     let stored = c .before .before .before in
     let made = stored .before .before in
     let bound = made .before in
-    let opened = bound .before .before in
+    let chosen = bound .before in
+    let opened = chosen .before .before in
     let args = opened .before .before .before .before .before .before .args in
     let passed = known opened in
-    write-done (args .board) (args .cell) (now (args .bytes)) (passed .1) (passed .0) (bound .bind .ensures)
-    (made .new .ensures) (stored .put-bytes .ensures) (c .finish .ensures)
+    write-done (args .board) (args .cell) (now (args .bytes)) (passed .1) (passed .0) (chosen .write-binding .ensures)
+    (bound .bind .ensures) (made .new .ensures) (stored .put-bytes .ensures) (c .finish .ensures)
 
 pub write-spec : {M : Type 1} → statement M
 write-spec =
@@ -70,6 +73,7 @@ write-spec =
     (λ c. refl)
     returns
     cast-i
+    (λ c κs. tt)
     bind-requires
     (λ c κs. tt)
     put-bytes-requires
