@@ -1,6 +1,7 @@
-//! The ledger of document 01, written apart from the protocol. It is told
-//! the shape, each call with its arguments and allowance, and of the answer
-//! only whether it was refused, done or cut.
+//! The ledger of document 01, written apart from the protocol, with the
+//! links of Req 01 of document 02. It is told the shape, each call with its
+//! arguments and allowance, and of the answer only whether it was refused,
+//! done or cut.
 
 /// A call of the list.
 #[derive(Clone, Copy, Debug)]
@@ -176,6 +177,14 @@ impl Ledger {
         (note.state == State::Pending && note.board != board).then_some(note.board)
     }
 
+    /// How many cells of the block that n cells from `first` on lie in are
+    /// not among them; none of a block overwritten whole.
+    fn left_standing(&self, first: usize, n: usize) -> usize {
+        let block = first / self.size;
+        let overwritten = (first..first + n).filter(|cell| cell / self.size == block);
+        self.size - overwritten.count()
+    }
+
     fn read(&mut self, board: usize, cell: usize, n: usize) -> Verdict {
         if let Some(j) = self.other_writer(board, cell) {
             self.links[board][j] = true;
@@ -198,8 +207,11 @@ impl Ledger {
 
     fn write(&mut self, board: usize, cell: usize, bytes: &[u8]) -> Verdict {
         if let Some(j) = self.other_writer(board, cell) {
-            self.links[board][j] = true;
             self.links[j][board] = true;
+            // A cell that is not overwritten may still hold what j wrote.
+            if self.left_standing(cell, bytes.len()) > 0 {
+                self.links[board][j] = true;
+            }
         }
         let access = Access::Write {
             cell,

@@ -1,4 +1,5 @@
-//! The memory module of document 01 over a lent image.
+//! The memory module of document 01 over a lent image, with Req 01 of
+//! document 02.
 
 pub const MARK: [u8; 4] = [0x52, 0x53, 0x4D, 0x31];
 pub const DONE: u8 = 0;
@@ -327,6 +328,13 @@ fn place(shape: &Shape, cell: usize, n: usize) -> Result<usize, u8> {
     }
 }
 
+/// Whether n cells from `cell` on overwrite the block whole. If not, it is a
+/// short write: what the block then holds is not all the writer's.
+fn whole(shape: &Shape, block: usize, cell: usize, n: usize) -> bool {
+    let first = block << shape.power;
+    cell <= first && first + shape.size() <= cell + n
+}
+
 /// The block's writer other than `board`; refuses 11 a tag above P.
 fn other_writer(
     image: &[u8],
@@ -406,8 +414,9 @@ fn try_write(
         return Err(13);
     }
     let next = match other {
-        Some(j) => record.depend(board, j).depend(j, board),
         None => record,
+        Some(j) if whole(&shape, block, cell, bytes.len()) => record.depend(j, board),
+        Some(j) => record.depend(board, j).depend(j, board),
     };
     let mut stores = Stores::new(image, k);
     let result = write_stores(&mut stores, &shape, board, cell, block, bytes);

@@ -207,6 +207,46 @@ fn read_that_outlives_its_write() {
 }
 
 #[test]
+fn wrong_group_after_an_overwrite() {
+    let whole = "F,3,2,2,1 W,0,0,0102 W,1,0,1112";
+    let spoilt = |group| {
+        move |_: &mut Player, played: &mut Played, _: &mut Vec<u8>| played.answer.group = group
+    };
+    fails(&format!("{whole} X,0"), "group", spoilt(0x0003));
+    fails(&format!("{whole} X,1"), "group", spoilt(0x0002));
+    fails(&format!("{whole} C,0,AA"), "group", spoilt(0x0001));
+    let short = "F,3,2,2,1 W,0,0,0102 W,1,1,12";
+    fails(&format!("{short} X,0"), "group", spoilt(0x0001));
+    fails(&format!("{short} X,1"), "group", spoilt(0x0002));
+}
+
+/// The ledger by itself, in blocks of four: who falls with whom after board 1
+/// wrote over board 0's block.
+#[test]
+fn links_of_overwrites() {
+    let bytes = [9; 4];
+    for (cell, n, faulty, group) in [
+        (4, 4, 0, 0b01),
+        (4, 4, 1, 0b11),
+        (4, 3, 0, 0b11),
+        (4, 3, 1, 0b11),
+        (5, 3, 0, 0b11),
+        (5, 3, 1, 0b11),
+        (6, 1, 0, 0b11),
+        (6, 1, 1, 0b11),
+    ] {
+        let mut ledger = Ledger::new(2, 4, 2, 0);
+        let mut done = |call| ledger.tell(call, UNCUT, Told::Done).unwrap();
+        for (board, cell, n) in [(0, 7, 1), (1, cell, n)] {
+            let bytes = &bytes[..n];
+            done(Call::Write { board, cell, bytes });
+        }
+        let fallen = done(Call::Fault { board: faulty }).group;
+        assert_eq!(fallen, group, "{n} from {cell} on, fault of {faulty}");
+    }
+}
+
+#[test]
 fn acknowledgement_without_a_commit() {
     let mut ledger = Ledger::new(2, 1, 2, 0);
     assert!(ledger
