@@ -260,9 +260,11 @@ impl Maker {
     /// First cell and length within the block.
     fn part(&mut self, shape: &Shape, block: usize) -> (usize, usize) {
         let size = shape.size();
-        let n = match self.random.below(4) {
-            0 => size,
-            1 => 1,
+        let n = match self.random.below(8) {
+            0 | 1 => size,
+            2 => 1,
+            // One cell short, at either end.
+            3 => (size - 1).max(1),
             _ => self.random.within(1, size.min(6)),
         };
         (block * size + self.random.below(size - n + 1), n)
@@ -271,6 +273,11 @@ impl Maker {
     fn write(&mut self, shape: &Shape, board: usize, block: usize) -> String {
         let (cell, n) = self.part(shape, block);
         format!("W,{board},{cell},{}", self.hex(n))
+    }
+
+    fn overwrite(&mut self, shape: &Shape, board: usize, block: usize) -> String {
+        let size = shape.size();
+        format!("W,{board},{},{}", block * size, self.hex(size))
     }
 
     fn read(&mut self, shape: &Shape, board: usize, block: usize) -> String {
@@ -415,17 +422,20 @@ impl Maker {
         }
     }
 
-    /// Boards in any order, each reading or writing what the one before it
-    /// wrote; then a commit or a fault along the chain.
+    /// Boards in any order, each reading, writing or overwriting whole what
+    /// the one before it wrote; then a commit or a fault along the chain.
     fn chain_scene(&mut self, shape: &Shape) {
         let mut order: Vec<usize> = (0..shape.boards).collect();
         self.random.shuffle(&mut order);
         order.truncate(self.random.within(2, 16));
-        let both_ways = self.random.pick(&[0, 0, 10, 100, 500]);
+        let written = self.random.pick(&[0, 0, 10, 100, 500]);
+        let overwritten = self.random.pick(&[0, 0, 100, 500, 1000]);
         for (i, board) in order.iter().enumerate() {
             if i > 0 {
                 let block = (i - 1) % shape.blocks;
-                let line = if self.random.per_mille(both_ways) {
+                let line = if self.random.per_mille(overwritten) {
+                    self.overwrite(shape, *board, block)
+                } else if self.random.per_mille(written) {
                     self.write(shape, *board, block)
                 } else {
                     self.read(shape, *board, block)
@@ -443,11 +453,14 @@ impl Maker {
             }
         }
         let board = self.random.pick(&order);
+        // Reads bind the last to the first, whole overwrites the first to the
+        // last.
+        let end = self.random.pick(&[order[0], order[order.len() - 1]]);
         match self.random.below(6) {
             0 | 1 => self.put_or_cut(format!("X,{board}")),
-            2 => self.put_or_cut(format!("X,{}", order[0])),
+            2 => self.put_or_cut(format!("X,{end}")),
             3 => {
-                let line = self.start(shape, *order.last().unwrap_or(&0));
+                let line = self.start(shape, end);
                 self.put(line);
                 self.commit_scene();
             }

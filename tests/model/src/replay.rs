@@ -1292,12 +1292,12 @@ fn large(add: Add) {
 
 fn generated(add: Add) {
     for (seed, name) in [
-        (1, "generated_1"),
-        (3, "generated_2"),
-        (4, "generated_3"),
-        (6, "generated_4"),
-        (7, "generated_5"),
-        (8, "generated_6"),
+        (3, "generated_1"),
+        (6, "generated_2"),
+        (7, "generated_3"),
+        (8, "generated_4"),
+        (13, "generated_5"),
+        (17, "generated_6"),
     ] {
         add(
             name,
