@@ -1,5 +1,5 @@
 //! The replay files: fixed event files that together reach every situation
-//! of document 01 that lines can reach.
+//! of document 01 and of Req 01 of document 02 that lines can reach.
 
 use crate::generate;
 use crate::lines::{self, Room, LONGEST};
@@ -138,6 +138,8 @@ pub fn all() -> Vec<Replay> {
     answers(&mut add);
     cuts(&mut add);
     groups(&mut add);
+    overwrites(&mut add);
+    overwrite_chains(&mut add);
     open_commits(&mut add);
     slips(&mut add);
     large(&mut add);
@@ -889,7 +891,7 @@ fn groups(add: Add) {
     );
     add(
         "write_links_both_ways",
-        "a write over another's block links both",
+        "a short write over another's block links both",
         &|s| {
             s.lines("F,3,2,2,0 W,0,0,01 W,1,1,02 X,1 R,2,0,2 W,0,0,03 W,1,1,04 X,0 R,2,0,2 W,0,0,05 W,1,1,06 C,0, A,1, R,2,0,2");
             s.lines(
@@ -1019,6 +1021,255 @@ fn groups(add: Add) {
                 "{text} C,0, {} R,3,15,1 R,3,1,1",
                 acknowledge(1..16, 0)
             ));
+        },
+    );
+}
+
+/// Board 0 writes two blocks, board 1 writes n cells of the first one, from
+/// `first` on; then a fault and a commit of either.
+fn each_side(s: &mut Script, size: usize, first: usize, n: usize) {
+    let see = format!("R,2,0,{size}");
+    s.lines(format!("F,3,{size},2,1"));
+    for end in [
+        format!("X,1 {see}"),
+        format!("X,0 {see} X,1"),
+        format!("C,1,A1 A,0,A0 {see} X,0"),
+        format!("C,0,A0 A,1,A1 {see} X,1"),
+    ] {
+        s.lines(format!("W,0,0,{} W,0,{size},{}", run(1, size), run(2, 1)));
+        s.lines(format!("W,1,{first},{} {end}", run(101, n)));
+    }
+}
+
+/// Each end after the same lines, with a look at the block; a power-up parts
+/// them.
+fn each_end(s: &mut Script, before: &str, ends: &[&str]) {
+    for end in ends {
+        s.lines(format!("{before} {end} R,3,0,2 U"));
+    }
+}
+
+fn overwrites(add: Add) {
+    add(
+        "whole_overwrite_each_size",
+        "a whole overwrite: a fault and a commit of writer and old writer; each S",
+        &|s| {
+            for size in [1, 2, 4, 8, 16, 32, 64] {
+                each_side(s, size, 0, size);
+            }
+        },
+    );
+    add(
+        "short_by_one_cell",
+        "the same for S - 1 bytes from the block's start and up to its end: both are bound",
+        &|s| {
+            for size in [2, 8, 64] {
+                each_side(s, size, 0, size - 1);
+                each_side(s, size, 1, size - 1);
+            }
+        },
+    );
+    add(
+        "blocks_of_one_cell",
+        "S = 1: every write is whole, over one, two and three boards, back and forth",
+        &|s| {
+            let over = "W,0,0,01 W,1,0,02 W,2,0,03";
+            s.lines("F,4,1,2,0");
+            for end in [
+                "X,0 X,1 X,2",
+                "X,1 X,2",
+                "X,2 X,0",
+                "C,2, X,0 X,1",
+                "C,1, A,2, X,0",
+            ] {
+                s.lines(format!("{over} {end} R,3,0,1 U"));
+            }
+            s.lines(format!("{over} C,0, A,2, A,0, A,1, R,3,0,1"));
+            s.lines("W,0,0,04 W,1,0,05 W,0,0,06 X,1 R,3,0,1 W,0,0,07 W,0,1,08 W,1,1,09 W,1,0,0A X,0 R,3,1,1 X,1");
+        },
+    );
+    add(
+        "whole_overwrite_of_own_and_clean_blocks",
+        "no link by a whole overwrite of a block that is one's own, never written, committed or rolled back",
+        &|s| {
+            s.lines("F,3,2,2,1 W,0,0,0102 W,0,0,0304 W,1,2,0506 X,1 X,2 C,0,A0");
+            s.lines("W,1,0,1112 X,0 R,2,0,2 X,1 W,0,0,0506 X,0 W,1,0,1516 X,0 C,1,A1 X,0");
+            s.lines("W,0,0,0708 U W,1,0,1718 X,0 X,1 W,0,0,0708 Z,1 U W,1,0,1718 C,1,A1 X,0");
+            // The writer's commit frees the old writer and the block.
+            s.lines("W,0,0,2122 W,0,2,2324 W,1,0,3132 C,1,A1 W,1,0,3334 X,1 W,2,0,4142 X,1 X,0 C,2,A2 R,0,0,2 R,0,2,2");
+            // So does the writer's rollback; that of the old writer leaves
+            // the block to the writer.
+            s.lines("W,0,0,5152 W,1,0,6162 X,1 W,2,0,7172 X,0 X,1 X,2 W,0,0,5354 W,1,0,6364 X,0 W,0,2,5556 X,1 X,0");
+            s.lines("W,0,0,5758 W,1,0,6768 X,0 W,2,0,7778 W,0,2,595A X,1 X,2 X,0 R,0,0,2 R,0,2,2");
+        },
+    );
+    add(
+        "whole_overwrite_and_reads",
+        "reads of the old bytes and of the new ones; a writer that read before; an old writer that reads after",
+        &|s| {
+            s.line("F,4,2,2,0");
+            each_end(
+                s,
+                "W,0,0,0102 W,1,0,1112 R,2,0,1",
+                &["X,1", "X,0 X,1", "X,2 X,1", "C,2, A,1, X,0", "C,0, A,1, X,2"],
+            );
+            each_end(
+                s,
+                "W,0,0,0102 R,2,0,1 W,1,0,1112",
+                &["X,1", "X,0 X,1", "C,2, A,0, A,1,", "C,0, A,1, X,2", "C,1, X,0"],
+            );
+            each_end(
+                s,
+                "W,0,0,0102 R,1,0,1 W,1,0,1112",
+                &["X,1", "X,0", "C,1, A,0,", "C,0, A,1,"],
+            );
+            each_end(
+                s,
+                "W,0,0,0102 W,0,2,0304 R,1,2,1 W,1,0,1112",
+                &["X,0", "C,1, A,0,"],
+            );
+            each_end(
+                s,
+                "W,0,0,0102 W,1,0,1112 R,0,0,2",
+                &["X,0 X,1", "C,1, X,0"],
+            );
+        },
+    );
+    add(
+        "whole_and_short_overwrites",
+        "whole overwrites and short writes of the same boards and blocks, in both orders",
+        &|s| {
+            s.line("F,4,2,2,0");
+            // Whole back and forth, and crosswise: both are bound.
+            each_end(
+                s,
+                "W,0,0,0102 W,1,0,1112 W,0,0,0304",
+                &["X,0", "X,1", "C,0, A,1,"],
+            );
+            each_end(
+                s,
+                "W,0,0,0102 W,1,2,1314 W,1,0,1112 W,0,2,0304",
+                &["X,0", "C,1, A,0,"],
+            );
+            // Whole, then short into what is one's own by now; and turned.
+            each_end(
+                s,
+                "W,0,0,0102 W,1,0,1112 W,1,1,13",
+                &["X,0 X,1", "C,1, X,0"],
+            );
+            each_end(s, "W,0,0,0102 W,1,1,12 W,1,0,1314", &["X,0", "C,1, A,0,"]);
+            // Two short writes that make a whole block.
+            each_end(s, "W,0,0,0102 W,1,0,11 W,1,1,12", &["X,0", "C,1, A,0,"]);
+            // One block whole, the other short.
+            each_end(
+                s,
+                "W,0,0,0102 W,0,2,0304 W,1,0,1112 W,1,3,14",
+                &["X,0", "C,1, A,0,"],
+            );
+            // Over a short write.
+            each_end(s, "W,0,1,02 W,1,0,1112", &["X,0 X,1", "X,1", "C,1, X,0"]);
+            // A third board, short over whole and whole over short.
+            let third = ["X,0 X,1", "X,1", "X,2", "C,2, A,1,", "C,0, A,1, A,2,"];
+            each_end(s, "W,0,0,0102 W,1,0,1112 W,2,1,22", &third);
+            each_end(s, "W,0,0,0102 W,1,1,12 W,2,0,2122", &third);
+        },
+    );
+    add(
+        "whole_overwrite_cut",
+        "a whole overwrite cut at every k; so are commit and fault of the writer after one",
+        &|s| {
+            s.cut_at_every(
+                "F,3,4,2,1 W,0,0,01020304 C,0,A0 W,0,0,11121314 W,0,4,15",
+                "W,1,0,21222324",
+                "R,2,0,4 R,2,4,1 X,0 C,1,A1",
+            );
+            s.cut_at_every(
+                "F,3,1,1,0 W,0,0,01 C,0, W,0,0,02",
+                "W,1,0,03",
+                "R,2,0,1 X,0 C,1,",
+            );
+            let before = "F,3,1,2,0 W,0,0,01 W,0,1,02 W,1,0,11";
+            s.cut_at_every(before, "C,1,", "R,2,0,1 R,2,1,1 X,0");
+            s.cut_at_every(before, "X,1", "R,2,0,1 R,2,1,1 X,0");
+        },
+    );
+    add(
+        "whole_overwrite_open_commit",
+        "an open commit without the old writer and with it; whole overwrites while it is open",
+        &|s| {
+            // 0 depends on 1 and 1 on 3: the members are 1 and 3.
+            let open = "F,5,2,5,1 W,3,2,3132 W,0,0,0102 W,0,4,0304 W,1,0,1112 R,1,2,1 C,1,A1";
+            let refused = "W,0,0,2122 W,2,0,2122 W,2,0,21 W,4,2,4142 W,1,8,1718 A,0,A0";
+            let see = "R,4,0,2 R,4,2,2 R,4,4,2 R,4,6,2";
+            s.lines(format!("{open} {refused} X,0 A,3,A3 X,1 {see}"));
+            s.lines(format!(
+                "{open} W,0,6,0708 W,2,6,2728 R,0,0,2 C,2,A2 A,3,A3 C,0,A0 X,1 A,2,A2 {see}"
+            ));
+            s.lines(format!("{open} X,1 A,3,A3 C,3,A3 {see}"));
+            s.lines(format!("{open} X,3 A,3,A3 {see}"));
+            // The old writer starts: the writer is a member.
+            let open = "F,3,2,2,1 W,0,0,0102 W,1,0,1112 C,0,A0";
+            s.lines(format!(
+                "{open} W,2,0,2122 W,2,1,22 R,2,0,2 X,2 A,1,A1 W,2,0,2122 X,1 X,2"
+            ));
+            s.lines(format!("{open} X,1 A,1,A1 {open} X,0 A,1,A1 X,1 R,2,0,2"));
+        },
+    );
+}
+
+fn overwrite_chains(add: Add) {
+    // Each board in turn overwrites block 0 whole, and has a block of its own.
+    let through = |boards: &mut dyn Iterator<Item = usize>, size: usize| -> String {
+        boards
+            .map(|i| {
+                let own = (i + 1) * size;
+                format!(
+                    "W,{i},0,{} W,{i},{own},{} ",
+                    run(i + 1, size),
+                    run(i + 65, 1)
+                )
+            })
+            .collect()
+    };
+    add(
+        "overwrite_chain16_fault",
+        "sixteen boards, each over the one before it: a fault of the first, the middle and the last",
+        &|s| {
+            let forth = through(&mut (0..16), 1);
+            let back = through(&mut (0..16).rev(), 1);
+            for (chain, ends) in [
+                (&forth, ["X,0 X,8 R,8,0,1 X,15", "X,15 X,0"]),
+                (&back, ["X,15 X,7 R,7,0,1 X,0", "X,0 X,15"]),
+            ] {
+                for end in ends {
+                    s.lines(format!("F,16,1,17,0 {chain} {end} R,3,0,1 R,3,1,1 R,3,16,1"));
+                }
+            }
+        },
+    );
+    add(
+        "overwrite_chain16_commit",
+        "sixteen boards, each over the one before it: commits from the last, the middle and the first",
+        &|s| {
+            let chain = through(&mut (0..16), 2);
+            let see = "R,3,0,2 R,3,2,2 R,3,18,2 R,3,32,2";
+            s.lines(format!("F,16,2,17,1 {chain} C,15,AA X,3"));
+            s.lines(format!("C,8,AA {} C,0,AA {see}", acknowledge(9..15, 1)));
+            s.lines(format!("{chain} C,0,AA {} {see}", acknowledge((1..16).rev(), 1)));
+            s.lines(format!("{chain} C,8,AA {} X,7 A,15,AB {see}", acknowledge(9..15, 1)));
+        },
+    );
+    add(
+        "overwrite_chain_kinds",
+        "a chain of whole overwrites and short writes in turn: a fault and a commit of each board",
+        &|s| {
+            // 0 depends on 1, 2 on 3, 4 on 5; 1 and 2, 3 and 4 on each other.
+            let chain = "W,0,0,0102 W,1,0,1112 W,2,1,22 W,3,0,3132 W,4,0,41 W,5,0,5152";
+            s.line("F,7,2,2,0");
+            for board in 0..6 {
+                s.lines(format!("{chain} X,{board} R,6,0,2 U {chain} C,{board}, "));
+                s.lines(acknowledge((0..6).filter(|i| *i != board), 0) + "R,6,0,2 U");
+            }
         },
     );
 }
