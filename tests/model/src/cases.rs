@@ -1,6 +1,7 @@
 //! The program `cases` of the gate: plays a file of requests on the module
 //! and prints each with its answer. What a request looks like stands at the
-//! head of crates/cases/src/main.rt; what is answered is document 01's.
+//! head of crates/cases/src/main.rt; what is answered is document 01's, with
+//! Req 01 of document 02.
 
 use crate::module::{self, Answer, Record, CUT, DONE, UNCUT};
 use std::fmt::Write;

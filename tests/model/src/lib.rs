@@ -1,5 +1,6 @@
 //! The independent test side: a plain model of `rsmrun`, the ledger, the
-//! generators of event files. Written from document 01 alone.
+//! generators of event files. Written from document 01 and Req 01 of
+//! document 02 alone.
 #![forbid(unsafe_code)]
 
 pub mod cases;
