@@ -38,11 +38,12 @@ fn bind(state: Record, how: Binding, i: u8, tag: u8) -> Record
     if i == j {
         return state;
     }
-    match how {
-        Binding::OneWay => state.depend(i, j),
-        Binding::TwoWay => state.depend(i, j).depend(j, i),
-        Binding::Opposite => state.depend(j, i),
-    }
+    let forth = match how {
+        Binding::OneWay => return state.depend(i, j),
+        Binding::TwoWay => state.depend(i, j),
+        Binding::Opposite => state,
+    };
+    forth.depend(j, i)
 }
 
 // The first n bytes of the buffer become those of the image from `at` on.
@@ -101,8 +102,8 @@ fn put_bytes(image: &mut [u8], p: Place, i: u8, bytes: &[u8], k: Budget) -> Budg
     put_all(image, p.at, bytes, tagged)
 }
 
-// How a write of n bytes binds in its block, which it overwrites whole if they are as many as the block has.
-fn write_binding(p: Place, n: usize) -> Binding
+// How a write of n bytes binds in its block, which may be the whole of it.
+fn binding_of(p: Place, n: usize) -> Binding
     ensures { λ r. ⌜ r ≡ binding-of p n ⌝ }
 {
     if n == p.size {
@@ -111,8 +112,8 @@ fn write_binding(p: Place, n: usize) -> Binding
     Binding::TwoWay
 }
 
-// The bytes become the current bytes from the cell on; the block's writer comes to depend on the board and, if the
-// block is not overwritten whole, the board on the writer.
+// The bytes become the current bytes from the cell on. If the block's active writer is another board, each comes to
+// depend on the other; if the whole block is written, only that writer on this board.
 pub fn write(
     image: &mut [u8],
     state: Record,
@@ -129,7 +130,7 @@ pub fn write(
         return refusal(admission.number(), state);
     };
     let i = board as u8;
-    let how = write_binding(p, bytes.len());
+    let how = binding_of(p, bytes.len());
     let next = bind(state, how, i, p.tag);
     let budget = Budget::new(k);
     let left = put_bytes(image, p, i, bytes, budget);

@@ -2,7 +2,7 @@
 use Prim.Native.Nat.{ℕ, _+_, _-_, _*_, _/_, _<_}
 use native.Mathlib.Nat.{div-mul-le-self, lt-div-mul-add}
 use native.Mathlib.Omega.{arith}
-use borrow.Author.Tests.{eq-eqb, eqb-true, le-leb}
+use borrow.Author.Tests.{eq-eqb, eqb-true}
 use mathlib.Core.Path.{_≡_, ap}
 use mathlib.Core.Bool.{Bool, true, false, or-false as or-none}
 use mathlib.Core.List.{[], _∷_, map}
@@ -15,8 +15,8 @@ use Rattle.protocol.specs.declared.Binding.{Binding}
 use Rattle.protocol.specs.Calls.{tags-of, bad-range}
 use Rattle.protocol.specs.declared.Shape.{Shape}
 use Rattle.volatile.specs.declared.Record.{Record}
-use Rattle.boards.proofs.Basics.{or-false, not-false, test-ext, true-and}
-use Rattle.protocol.proofs.Accesses.{whole-bounds}
+use Rattle.boards.proofs.Basics.{or-false, not-false, test-ext}
+use Rattle.protocol.proofs.Accesses.{whole-bounds, bounds-whole}
 use Rattle.protocol.proofs.Plans.{ranged}
 
 one-block : (s : Shape) (a n : ℕ) → bad-range s a n ≡ false → eqb (a / s .size) ((a + n - 1) / s .size) ≡ true
@@ -44,8 +44,7 @@ whole-one s a n positive ok =
     (λ h. eq-eqb n (s .size) (omega (arith, whole-bounds s a n b h, r)))
     (λ h.
     let full = eqb-true n (s .size) h in
-    true-and (le-leb a (b * s .size) (omega (arith, r, ap (λ q. q * s .size) same)))
-    (le-leb (b * s .size + s .size) (a + n) (omega arith)))
+    bounds-whole s a n b (omega (arith, r, ap (λ q. q * s .size) same)) (omega arith))
 
 module _ (s : Shape) (m : Memory) (a n : ℕ) (ok : bad-range s a n ≡ false) where
   tags-one : tags-of s m a n ≡ m Tags (a / s .size) ∷ []

@@ -16,7 +16,7 @@ ghost use Rattle.protocol.specs.Calls.{Read, Write, refusal-at, bad-range};
 ghost use Rattle.entry.specs.Tested.{refusal-number, Tested};
 ghost use Rattle.admission.specs.Places.{place-at, admission-says, Placed};
 
-// Where an access begins in the image; its block, that block's tag and its size.
+// Where an access begins in the image; its block, that block's tag and size.
 pub struct Place {
     pub at: usize,
     pub block: usize,

@@ -7,14 +7,15 @@ use mathlib.Core.List.{List, [], _∷_}
 use mathlib.Core.Logic.{⊎-elim}
 use lib.Dec.{eqb, leb}
 use native.Mathlib.Omega.{arith}
-use borrow.Author.Tests.{eq-eqb, eqb-true, eqb-false, leb-true}
+use borrow.Author.Tests.{eq-eqb, eqb-true, eqb-false, leb-true, le-leb}
 use Rattle.boards.specs.Lists.{anyOf}
 use Rattle.boards.specs.Boards.{Links, link, Chain, step}
 use Rattle.protocol.specs.Accesses.{touched, whole, write-binding, bind-boards, bind-tag, bind-blocks}
 use Rattle.protocol.specs.declared.Binding.{Binding}
 use Rattle.protocol.specs.declared.Binding.the-variants.{OneWay, TwoWay, Opposite}
 use Rattle.protocol.specs.declared.Shape.{Shape}
-use Rattle.boards.proofs.Basics.{decide, clash, and-true, or-true, or-right, true-or, All, none, also, all-map}
+use Rattle.boards.proofs.Basics.{decide, clash, and-true, true-and, or-true, or-right, true-or}
+use Rattle.boards.proofs.Basics.{All, none, also, all-map}
 use Rattle.boards.proofs.Groups.{Forward, Bounded, chain-more, chain-last, link-new, link-old, link-cases, link-bounded}
 use Rattle.protocol.proofs.Marks.{To, to, From, from}
 
@@ -51,12 +52,15 @@ cell-touched s a n c pos small lo hi =
     (decide (eqb first last)))
     (decide (eqb q first))
 
--- the cells of a block that is overwritten whole
-pub whole-bounds : (s : Shape) (a n b : ℕ) → whole s a n b ≡ true
-    → (a ≤ b * s .size) × (b * s .size + s .size ≤ a + n)
-whole-bounds s a n b e =
-    let both = and-true (leb a (b * s .size)) (leb (b * s .size + s .size) (a + n)) e in
-    (leb-true a (b * s .size) (both .0), leb-true (b * s .size + s .size) (a + n) (both .1))
+-- a block is overwritten whole: by its bounds
+module _ (s : Shape) (a n b : ℕ) where
+  pub whole-bounds : whole s a n b ≡ true → (a ≤ b * s .size) × (b * s .size + s .size ≤ a + n)
+  whole-bounds e =
+      let both = and-true (leb a (b * s .size)) (leb (b * s .size + s .size) (a + n)) e in
+      (leb-true a (b * s .size) (both .0), leb-true (b * s .size + s .size) (a + n) (both .1))
+
+  pub bounds-whole : a ≤ b * s .size → b * s .size + s .size ≤ a + n → whole s a n b ≡ true
+  bounds-whole low high = true-and (le-leb a (b * s .size) low) (le-leb (b * s .size + s .size) (a + n) high)
 
 -- a fact of all elements is one of each that is found
 pub all-found : {P : ℕ → Type 0} (b : ℕ) (bs : List ℕ) → All P bs → anyOf (eqb b) bs ≡ true → P b
@@ -74,7 +78,7 @@ all-found {P} b (c ∷ bs) (also h hs) e =
 tie-wider : (how : Binding) (d : Links) (i j a b : ℕ) → d a b ≡ true → bind-boards link how d i j a b ≡ true
 unfolding bind-boards
 tie-wider OneWay d i j a b h = link-old d i j a b h
-tie-wider TwoWay d i j a b h = link-old (link d i j) j i a b (link-old d i j a b h)
+tie-wider TwoWay d i j a b h = link-old _ _ _ a b (link-old d _ _ a b h)
 tie-wider Opposite d i j a b h = link-old d _ _ a b h
 
 bind-wider : (how : Binding) (d : Links) (i t a b : ℕ) → d a b ≡ true → bind-tag link how d i t a b ≡ true
@@ -118,7 +122,7 @@ write-back s a n b = ⊎-elim (λ (e : whole s a n b ≡ true). rw e) (λ (e : w
 tie-forth : (how : Binding) (d : Links) (i j : ℕ) → goes-forth how ≡ true → bind-boards link how d i j i j ≡ true
 unfolding bind-boards goes-forth
 tie-forth OneWay d i j w = link-new d i j
-tie-forth TwoWay d i j w = link-old (link d i j) j i i j (link-new d i j)
+tie-forth TwoWay d i j w = link-old (link d i j) _ _ i j (link-new d i j)
 tie-forth Opposite d i j w = clash w refl
 
 tie-back : (how : Binding) (d : Links) (i j : ℕ) → goes-back how ≡ true → bind-boards link how d i j j i ≡ true

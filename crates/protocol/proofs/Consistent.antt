@@ -142,7 +142,7 @@ read-covers i a x f os =
     let hi = ltb-true x (a + 0) (both .1) in
     omega arith)
 
--- and leaves every cell of a block as it was
+-- so it is no write of a whole block
 read-leaves : (s : Shape) (b i a : ℕ) (f : Fate) (os : List (Option ℕ)) → 0 < s .size
     → wrote-all s (record { board = i; cell = a; access = Read-from os; fate = f }) b ≡ false
 unfolding wrote-all

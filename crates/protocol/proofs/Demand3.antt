@@ -16,7 +16,7 @@ use Rattle.volatile.specs.Volatile.{closed, fresh}
 use Rattle.protocol.specs.Calls.{format}
 use Rattle.protocol.specs.Ledger.{done, blank, writer}
 use Rattle.protocol.specs.Claim.{verdict, System, Call, next, formatted, Holds}
-use Rattle.protocol.specs.Claim.{Faithful, end, and-then, Demand-3, Format-done}
+use Rattle.protocol.specs.Claim.{Faithful, end, and-then, Demand-3, Format-done, later}
 use Rattle.protocol.specs.declared.Shape.{Shape}
 use Rattle.volatile.specs.declared.Record.{Record}
 use Rattle.boards.proofs.Basics.{clash}
@@ -104,7 +104,7 @@ faithful {s} w (c ∷ cs) i r =
 
 -- ---- the beginning
 
-pub formatted-on : (s : Shape) (image : List ℕ) (r : Record) (k : ℕ) → verdict (format s image r k) ≡ done
+formatted-on : (s : Shape) (image : List ℕ) (r : Record) (k : ℕ) → verdict (format s image r k) ≡ done
     → Invariant s (formatted s image r k)
 unfolding formatted blank rank unlinked marks live saved writer fresh closed
 formatted-on s image r k v =
@@ -132,6 +132,16 @@ unfolding formatted fresh closed
 formatted-ready s image r k v =
     let f = Format.formatted s image r k (done-status (format s image r k) v) in
     rw (f .2) (record { small = pow-pos 16; state = λ q. orderly-record (fresh-order (s .boards)) })
+
+-- the invariant at each point
+pub reached : {s : Shape} (w : System) (calls : List Call) → Invariant s w → Invariant s (later s w calls)
+unfolding later
+reached w [] i = i
+reached {s} w (c ∷ cs) i = reached (next s w (c .request) (c .k)) cs (step w i (c .request) (c .k) .1)
+
+pub invariant-at : (s : Shape) (image : List ℕ) (r : Record) (k : ℕ) → verdict (format s image r k) ≡ done
+    → (calls : List Call) → Invariant s (later s (formatted s image r k) calls)
+invariant-at s image r k v calls = reached (formatted s image r k) calls (formatted-on s image r k v)
 
 pub demand-3 : Demand-3
 demand-3 s image r k v calls =

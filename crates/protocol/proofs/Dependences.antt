@@ -21,7 +21,7 @@ use Rattle.protocol.specs.declared.Shape.{Shape}
 use Rattle.boards.proofs.Basics.{decide, clash, and-true, true-and, and-false, or-true, eqb-comm}
 use Rattle.boards.proofs.Basics.{not-true, refute, test-ext, some-any, any-some, none-any, All, none, also, false-anyOf}
 use Rattle.boards.proofs.Basics.{every-at, every-all}
-use Rattle.protocol.proofs.Accesses.{cell-touched, all-found, whole-bounds, goes-forth, goes-back}
+use Rattle.protocol.proofs.Accesses.{cell-touched, all-found, whole-bounds, bounds-whole, goes-forth, goes-back}
 use Rattle.protocol.proofs.Marks.{Ends, keeps, undoes}
 
 -- which access binds its board to the writer in a block, and which the writer to its board
@@ -108,8 +108,8 @@ whole-cells s n b positive =
     (λ h.
     let low = and-true (leb (n .cell) (first + 0)) _ (every-at (s .size) hit h 0 positive) .0 in
     let high = and-true (leb (n .cell) last) _ (every-at (s .size) hit h (s .size - 1) (omega arith)) .1 in
-    true-and (le-leb (n .cell) first (omega (arith, leb-true (n .cell) (first + 0) low)))
-    (le-leb (first + s .size) (n .cell + w) (omega (arith, ltb-true last (n .cell + w) high))))
+    bounds-whole s (n .cell) w b (omega (arith, leb-true (n .cell) (first + 0) low))
+    (omega (arith, ltb-true last (n .cell + w) high)))
 
 -- a note wrote in block b: one of its cells lies there
 wrote-in-cells : (s : Shape) (b : ℕ) (n : Note) → 0 < s .size → width (n .access) ≤ s .size
@@ -285,7 +285,7 @@ module _ (s : Shape) (p : ℕ → Bool) {f : Fate} (ends : Ends f) where
 
 -- ---- an access noted is its blocks bound
 
--- whether board x comes to depend on y where board i binds itself to a tag's writer
+-- whether board x comes to depend on y where an access of board i binds it and a tag's writer
 unfoldable pub binds-now : Binding → ℕ → ℕ → ℕ → ℕ → Bool
 binds-now how i t x y =
     not (eqb x y) && ((eqb i x && (goes-forth how && names t y)) || (eqb i y && (goes-back how && names t x)))

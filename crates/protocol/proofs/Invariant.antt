@@ -207,7 +207,7 @@ module _ {s : Shape} {w : System} (h : Sound s (w .image)) (q : w .waiting ≡ f
 
   -- ---- a write
 
-  write-ok : (i a : ℕ) (bytes : List ℕ) → first (refusals (w .image) s m (w .state) (Write i a bytes)) ≡ 0
+  pub write-ok : (i a : ℕ) (bytes : List ℕ) → first (refusals (w .image) s m (w .state) (Write i a bytes)) ≡ 0
       → Access-ok s (write-binding s a (length bytes)) i a (length bytes) (w .ledger) × Ranged s a (length bytes)
   unfolding refusals engaged
   write-ok i a bytes e =
@@ -422,7 +422,7 @@ module _ {s : Shape} (w : System) (h : Sound s (w .image)) (c : Consistent s (w 
 module _ {s : Shape} (w : System) (h : Sound s (w .image)) (q : w .waiting ≡ true) (o : w .state .on ≡ false)
     (c : Off s (view s (w .image)) (w .ledger))
   where
-    off-refuses : (i : ℕ) (ts : List Test) → first (entry-tests (w .image) (w .state) i ++ ts) ≢ 0
+    pub off-refuses : (i : ℕ) (ts : List Test) → first (entry-tests (w .image) (w .state) i ++ ts) ≢ 0
     unfolding bad-record
     off-refuses i ts z =
         true≢false (rw o at (begun (w .image) (w .state) i ts (h .shape) z .0 .recorded))

@@ -179,7 +179,7 @@ impl Ledger {
 
     /// How many cells of the block that n cells from `first` on lie in are
     /// not among them; none of a block overwritten whole.
-    fn left_standing(&self, first: usize, n: usize) -> usize {
+    fn left_over(&self, first: usize, n: usize) -> usize {
         let block = first / self.size;
         let overwritten = (first..first + n).filter(|cell| cell / self.size == block);
         self.size - overwritten.count()
@@ -209,7 +209,7 @@ impl Ledger {
         if let Some(j) = self.other_writer(board, cell) {
             self.links[j][board] = true;
             // A cell that is not overwritten may still hold what j wrote.
-            if self.left_standing(cell, bytes.len()) > 0 {
+            if self.left_over(cell, bytes.len()) > 0 {
                 self.links[board][j] = true;
             }
         }

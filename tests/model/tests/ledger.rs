@@ -220,7 +220,7 @@ fn wrong_group_after_an_overwrite() {
     fails(&format!("{short} X,1"), "group", spoilt(0x0002));
 }
 
-/// The ledger by itself, in blocks of four: who falls with whom after board 1
+/// The ledger by itself, in blocks of four: who is rolled back after board 1
 /// wrote over board 0's block.
 #[test]
 fn links_of_overwrites() {
@@ -241,8 +241,8 @@ fn links_of_overwrites() {
             let bytes = &bytes[..n];
             done(Call::Write { board, cell, bytes });
         }
-        let fallen = done(Call::Fault { board: faulty }).group;
-        assert_eq!(fallen, group, "{n} from {cell} on, fault of {faulty}");
+        let rolled_back = done(Call::Fault { board: faulty }).group;
+        assert_eq!(rolled_back, group, "{n} from {cell} on, fault of {faulty}");
     }
 }
 

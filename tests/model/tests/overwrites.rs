@@ -20,8 +20,8 @@ fn table(text: &str) {
     assert_eq!(check::file(events.as_bytes()), Ok(lines), "the ledger");
 }
 
-/// The old writer falls alone, the writer's bytes stay; its other block goes
-/// back. Afterwards nothing binds it to the writer.
+/// The old writer is rolled back alone, the writer's bytes stay; its other
+/// block goes back. Afterwards nothing binds it to the writer.
 #[test]
 fn whole_fault_of_the_old_writer() {
     table(
@@ -280,7 +280,7 @@ R,0,0,2           21,R,0,0,0000,0,0102
 }
 
 /// Own blocks and clean ones (never written, committed, rolled back) make no
-/// link, overwritten whole or not.
+/// link when they are overwritten whole.
 #[test]
 fn own_and_clean_blocks() {
     table(

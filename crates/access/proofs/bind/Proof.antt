@@ -1,11 +1,13 @@
 -- `bind` meets its contract: nothing for no writer and for the board itself, else a link one way, each way or back.
 use Prim.Native.Nat.{suc, _<_}
 use mathlib.Core.Path.{_≡_, _∙_, ap}
+use mathlib.Core.Logic.{⊎-elim}
 use native.Mathlib.Omega.{arith}
 use Rattle.boards.specs.Boards.{tag-of}
 use Rattle.protocol.specs.Accesses.{bind-boards, bind-tag}
 use Rattle.protocol.specs.declared.Binding.{Binding}
 use Rattle.volatile.specs.Volatile.{depend}
+use Rattle.volatile.specs.declared.Record.{Record}
 use Rattle.access.proofs.Laws.{bind-none, bind-own, bind-other}
 use Rattle.access.proofs.bind.Statement.{statement}
 use Rattle.access.proofs.bind.Tie as tie
@@ -47,19 +49,18 @@ returns-3 : tie.Need-returns-3
 unfolding bind-boards
 returns-3 c = c .depend .ensures ∙ rw (c .before .enum-told2 .given .1) (other (c .before .before .before) _)
 
+-- the link back, after the one forth or by itself
 returns-4 : tie.Need-returns-4
 unfolding bind-boards
 returns-4 c =
-    let once = c .before in
-    let apart = once .before .before .before in
+    let apart = c .before .before in
     let opened = apart .before .before in
+    let back : Record → Record = λ r. depend r (opened .j .given .0 .0) (opened .before .before .before .args .i) in
     c .depend3 .ensures
-    ∙ ap (λ r. depend r (opened .j .given .0 .0) (opened .before .before .before .args .i)) (once .depend2 .ensures)
-    ∙ rw (once .before .enum-told3 .given .1) (other apart _)
-
-returns-5 : tie.Need-returns-5
-unfolding bind-boards
-returns-5 c = c .depend4 .ensures ∙ rw (c .before .enum-told4 .given .1) (other (c .before .before .before) _)
+    ∙ ⊎-elim
+    (λ q. ap back (q .3 ∙ q .2 .ensures) ∙ rw (q .1 .given .1) (other apart _))
+    (λ q. ap back (q .2) ∙ rw (q .1 .given .1) (other apart _))
+    (c .before .match2 .came)
 
 pub bind-spec : {M : Type 1} → statement M
 bind-spec =
@@ -72,12 +73,9 @@ bind-spec =
     returns-2
     (λ c. omega arith)
     (λ c κs. let both = both-small (c .before .before .before .before) in (omega (arith, both), omega (arith, both)))
-    (λ c. omega arith)
-    (λ c κs. let both = both-small (c .before .before .before .before) in (omega (arith, both), omega (arith, both)))
-    (λ c κs. let both = both-small (c .before .before .before .before .before) in
-    (omega (arith, both), omega (arith, both)))
-    (λ c. omega arith)
-    (λ c κs. let both = both-small (c .before .before .before .before) in (omega (arith, both), omega (arith, both)))
     returns-3
-    returns-4
-    returns-5)
+    (λ c. omega arith)
+    (λ c κs. let both = both-small (c .before .before .before .before) in (omega (arith, both), omega (arith, both)))
+    (λ c. omega arith)
+    (λ c κs. let both = both-small (c .before .before .before) in (omega (arith, both), omega (arith, both)))
+    returns-4)

@@ -58,7 +58,7 @@ returns-2 c =
     let opened = chosen .before .before in
     let args = opened .before .before .before .before .before .before .args in
     let passed = known opened in
-    write-done (args .board) (args .cell) (now (args .bytes)) (passed .1) (passed .0) (chosen .write-binding .ensures)
+    write-done (args .board) (args .cell) (now (args .bytes)) (passed .1) (passed .0) (chosen .binding-of .ensures)
     (bound .bind .ensures) (made .new .ensures) (stored .put-bytes .ensures) (c .finish .ensures)
 
 pub write-spec : {M : Type 1} → statement M

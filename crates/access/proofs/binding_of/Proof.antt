@@ -1,8 +1,8 @@
--- `write_binding` meets its contract: the block is overwritten whole, or not.
+-- `binding_of` meets its contract: the block is overwritten whole, or not.
 use native.Mathlib.Omega.{arith}
 use borrow.Author.Tests.{eq-eqb, ne-eqb}
-use Rattle.access.proofs.write_binding.Statement.{statement}
-use Rattle.access.proofs.write_binding.Tie as tie
+use Rattle.access.proofs.binding_of.Statement.{statement}
+use Rattle.access.proofs.binding_of.Tie as tie
 
 returns : tie.Need-returns
 returns c =
@@ -12,5 +12,5 @@ returns c =
 returns-2 : tie.Need-returns-2
 returns-2 c = let args = c .before .before .args in rw (ne-eqb (args .n) (args .p .size) (c .if1 .left))
 
-pub write-binding-spec : {M : Type 1} → statement M
-write-binding-spec = tie.close (tie.spec returns returns-2)
+pub binding-of-spec : {M : Type 1} → statement M
+binding-of-spec = tie.close (tie.spec returns returns-2)
