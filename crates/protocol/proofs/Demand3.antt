@@ -134,7 +134,7 @@ formatted-ready s image r k v =
     rw (f .2) (record { small = pow-pos 16; state = λ q. orderly-record (fresh-order (s .boards)) })
 
 -- the invariant at each point
-pub reached : {s : Shape} (w : System) (calls : List Call) → Invariant s w → Invariant s (later s w calls)
+reached : {s : Shape} (w : System) (calls : List Call) → Invariant s w → Invariant s (later s w calls)
 unfolding later
 reached w [] i = i
 reached {s} w (c ∷ cs) i = reached (next s w (c .request) (c .k)) cs (step w i (c .request) (c .k) .1)
