@@ -24,7 +24,7 @@ use Rattle.boards.proofs.Basics.{any-none, none-any, some-any, any-some
 
 -- ---- generic: a number is below another or not, and the elements of a loop that gives one at a time
 
-below-or : (i n : ℕ) → (i < n) ⊎ (n ≤ i)
+pub below-or : (i n : ℕ) → (i < n) ⊎ (n ≤ i)
 below-or i n = ⊎-elim (λ e. inl (ltb-true i n e)) (λ e. inr (ltb-false i n e)) (decide (ltb i n))
 
 module _ {X : Type 0} (f : ℕ → X) where
@@ -252,7 +252,7 @@ larger-bit true false f = clash (f refl) refl
 larger-bit false true f = (omega arith, λ k. absurd (omega arith))
 larger-bit false false f = (omega arith, λ k. refl)
 
-larger-count : (n : ℕ) (p q : ℕ → Bool) → ((j : ℕ) → p j ≡ true → q j ≡ true)
+pub larger-count : (n : ℕ) (p q : ℕ → Bool) → ((j : ℕ) → p j ≡ true → q j ≡ true)
     → (count n p ≤ count n q) × (count n q ≤ count n p → (j : ℕ) → j < n → p j ≡ q j)
 unfolding count
 larger-count zero p q f = (omega arith, λ k j l. absurd (omega arith))

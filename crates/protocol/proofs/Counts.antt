@@ -16,7 +16,7 @@ use Rattle.boards.proofs.Groups.{count}
 use Rattle.protocol.proofs.Copies.{length-copying}
 
 -- a loop whose rounds have c elements each where the test passes, and else none
-length-rounds : {X : Type 0} (c n : ℕ) (p : ℕ → Bool) (f : ℕ → List X)
+pub length-rounds : {X : Type 0} (c n : ℕ) (p : ℕ → Bool) (f : ℕ → List X)
     → ((i : ℕ) → p i ≡ true → length (f i) ≡ c) → ((i : ℕ) → p i ≡ false → length (f i) ≡ 0)
     → length (for n f) ≡ count n p * c
 unfolding for count
