@@ -1,8 +1,9 @@
 //! The program `cases` of the gate: plays a file of requests on the module
 //! and prints each with its answer. What a request looks like stands at the
 //! head of crates/cases/src/main.rt; what is answered is document 01's, with
-//! Req 01 of document 02.
+//! Req 01 and 02 of document 02.
 
+use crate::forecast::{self, Forecast};
 use crate::module::{self, Answer, Record, CUT, DONE, UNCUT};
 use std::fmt::Write;
 
@@ -103,6 +104,8 @@ impl Bench {
                 };
                 self.put(format_args!(" : {code} {same}"));
             }
+            b'E' => self.put_forecast(forecast::commit(self.image(), &self.record, second)),
+            b'G' => self.put_forecast(forecast::fault(self.image(), &self.record, second)),
             b'D' => {
                 let image = hex(self.image());
                 self.put(format_args!(" : {image}"));
@@ -129,6 +132,14 @@ impl Bench {
             u8::from(answer.decided),
             answer.group,
             answer.stores
+        ));
+    }
+
+    /// Status, group, stores.
+    fn put_forecast(&mut self, forecast: Forecast) {
+        self.put(format_args!(
+            " : {} {:04x} {}",
+            forecast.code, forecast.group, forecast.stores
         ));
     }
 

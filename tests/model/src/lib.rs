@@ -1,10 +1,11 @@
 //! The independent test side: a plain model of `rsmrun`, the ledger, the
-//! generators of event files. Written from document 01 and Req 01 of
+//! generators of event files. Written from document 01 and Req 01 and 02 of
 //! document 02 alone.
 #![forbid(unsafe_code)]
 
 pub mod cases;
 pub mod check;
+pub mod forecast;
 pub mod generate;
 pub mod ledger;
 pub mod lines;

@@ -9,7 +9,7 @@ pub const UNCUT: u32 = u32::MAX;
 
 const DECISION: usize = 9;
 const GROUP: usize = 10;
-const TAGS: usize = 12;
+pub(crate) const TAGS: usize = 12;
 const ALL: u16 = 0xFFFF;
 
 /// The numbers that lay the image out.
@@ -115,7 +115,7 @@ impl Record {
         self
     }
 
-    fn commit_group(&self, board: usize) -> u16 {
+    pub(crate) fn commit_group(&self, board: usize) -> u16 {
         let mut group = 1_u16 << board;
         let mut open = group;
         while open != 0 {
@@ -127,7 +127,7 @@ impl Record {
         group
     }
 
-    fn fault_group(&self, board: usize) -> u16 {
+    pub(crate) fn fault_group(&self, board: usize) -> u16 {
         let mut group = 1_u16 << board;
         loop {
             let before = group;
@@ -286,7 +286,7 @@ impl<'a> Stores<'a> {
 }
 
 /// Whether a tag names a board of the group; 0 and tags above 16 name none.
-fn tagged(tag: u8, group: u16) -> bool {
+pub(crate) fn tagged(tag: u8, group: u16) -> bool {
     tag <= 16 && (u32::from(group) << 1) >> tag & 1 == 1
 }
 
@@ -302,7 +302,7 @@ pub fn header(image: &[u8], decision: u8) -> Option<Shape> {
 }
 
 /// The tests that begin every call by a board: 11, 12, 1.
-fn begin(image: &[u8], record: &Record, board: usize) -> Result<Shape, u8> {
+pub(crate) fn begin(image: &[u8], record: &Record, board: usize) -> Result<Shape, u8> {
     let shape = header(image, 0).ok_or(11)?;
     if !record.sound(&shape) {
         return Err(12);
