@@ -6,6 +6,7 @@
 pub mod cases;
 pub mod check;
 pub mod forecast;
+pub mod forecast_check;
 pub mod generate;
 pub mod ledger;
 pub mod lines;

@@ -1,6 +1,9 @@
-//! The forecasts of Req 02 of document 02, by hand.
+//! The forecasts of Req 02 of document 02: by hand, and held against the
+//! calls that they foretell.
 use model::cases;
 use model::forecast::{self, Forecast};
+use model::forecast_check::{self, Reached};
+use model::generate;
 use model::lines;
 use model::player::Player;
 
@@ -89,4 +92,18 @@ fn requests() {
         "G 0 999999 : 1 0000 0",
     ];
     assert_eq!(forecasts, expected);
+}
+
+/// Every situation of the check is reached.
+#[test]
+fn random_histories() {
+    let mut reached = Reached::default();
+    for seed in 0..100 {
+        let events = generate::events(seed, 200);
+        let checked = forecast_check::file(&events, seed, &mut reached);
+        assert_eq!(checked, Ok(()), "{seed}");
+    }
+    for (situation, count) in reached.counts() {
+        assert!(count > 0, "{situation}");
+    }
 }

@@ -1,0 +1,421 @@
+//! Holds forecasts against the calls that they foretell (Req 02 of document
+//! 02): at random points of an event file, for every board, in the state
+//! there, in spoilt copies of it and in copies with random rows and tags.
+
+use crate::forecast::{self, Forecast};
+use crate::lines::{self, Room, LONGEST};
+use crate::module::{self, Answer, Record, Shape, CUT, DONE, TAGS, UNCUT};
+use crate::player::Player;
+use crate::random::Random;
+use std::collections::BTreeMap;
+use std::fmt::Debug;
+
+/// What a check over many files has to reach.
+const SITUATIONS: &[&str] = &[
+    "commit: refused 1",
+    "commit: refused 11",
+    "commit: refused 12",
+    "commit: refused 14",
+    "commit: one member",
+    "commit: several members",
+    "commit: sixteen members",
+    "commit: no block",
+    "commit: several blocks",
+    "commit: K is 0",
+    "commit: a block of a board outside",
+    "commit: a tag above P",
+    "commit: cut after the deciding store",
+    "commit: cut before the deciding store",
+    "between: changed the image",
+    "between: changed the record",
+    "between: a fault with a block",
+    "between: refused",
+    "fault: refused 1",
+    "fault: refused 11",
+    "fault: refused 12",
+    "fault: one board",
+    "fault: several boards",
+    "fault: no block",
+    "fault: several blocks",
+    "fault: a tag above P",
+    "fault: a member of the open commit",
+    "fault: cut",
+];
+
+/// How often each situation was reached.
+pub struct Reached(BTreeMap<&'static str, u32>);
+
+impl Default for Reached {
+    fn default() -> Reached {
+        Reached(SITUATIONS.iter().map(|name| (*name, 0)).collect())
+    }
+}
+
+impl Reached {
+    pub fn counts(&self) -> impl Iterator<Item = (&'static str, u32)> + '_ {
+        self.0.iter().map(|(name, count)| (*name, *count))
+    }
+
+    fn note(&mut self, situation: &str) {
+        let count = self.0.get_mut(situation);
+        *count.expect("a situation of the list") += 1;
+    }
+
+    fn note_if(&mut self, holds: bool, situation: &str) {
+        if holds {
+            self.note(situation);
+        }
+    }
+}
+
+/// Plays a whole file and checks; the first difference is an error.
+pub fn file(mut input: &[u8], seed: u64, reached: &mut Reached) -> Result<(), String> {
+    let mut check = Check {
+        random: Random::new(seed),
+        reached,
+    };
+    let mut player = Player::default();
+    let mut line = Vec::new();
+    while lines::next_line(&mut input, &mut line).unwrap_or(false) {
+        let mut room: Room = [0; LONGEST / 2];
+        player.play(lines::parse(&line, &mut room).as_ref());
+        if check.random.per_mille(70) {
+            let state = State {
+                image: player.image.clone(),
+                record: player.record,
+            };
+            check
+                .point(state)
+                .map_err(|what| format!("after line {}: {what}", player.number))?;
+        }
+    }
+    Ok(())
+}
+
+#[derive(Clone)]
+struct State {
+    image: Vec<u8>,
+    record: Record,
+}
+
+struct Check<'a> {
+    random: Random,
+    reached: &'a mut Reached,
+}
+
+/// An error where the two differ.
+fn agree<T: PartialEq + Debug>(what: &str, got: T, expected: T) -> Result<(), String> {
+    if got == expected {
+        Ok(())
+    } else {
+        Err(format!("{what}: {got:?}, foretold {expected:?}"))
+    }
+}
+
+impl Check<'_> {
+    fn point(&mut self, state: State) -> Result<(), String> {
+        self.every_board(&state, "")?;
+        let Some(shape) = module::header(&state.image, 0) else {
+            return Ok(());
+        };
+        let mut other = state.clone();
+        self.scramble(&mut other, &shape);
+        if self.random.per_mille(300) {
+            self.every_board(&other, "scrambled, ")?;
+        }
+        let mut other = self.random.pick(&[&state, &other]).clone();
+        self.spoil(&mut other, &shape);
+        self.every_board(&other, "spoilt, ")
+    }
+
+    /// The boards below P, one at P or above it.
+    fn every_board(&mut self, state: &State, kind: &str) -> Result<(), String> {
+        let shape = module::header(&state.image, 0);
+        let boards = shape.map_or(2, |shape| shape.boards);
+        let beyond = [boards, boards + 1, 16, 17, 32, 255, 65_536, usize::MAX];
+        let beyond = beyond.map(|board| board.max(boards));
+        let beyond = self.random.pick(&beyond);
+        for board in (0..boards).chain([beyond]) {
+            let checked = match self.fault(state, board) {
+                Ok(()) => self.commit(state, board, shape.as_ref()),
+                Err(what) => Err(what),
+            };
+            checked.map_err(|what| format!("{kind}board {board}: {what}"))?;
+        }
+        Ok(())
+    }
+
+    /// A fault made next, for allowances around the figure.
+    fn fault(&mut self, state: &State, board: usize) -> Result<(), String> {
+        let told = forecast::fault(&state.image, &state.record, board);
+        let fault = |k| module::fault(&mut state.image.clone(), state.record, board, k).0;
+        let stores = told.stores;
+        for k in [stores, stores + 1, UNCUT] {
+            agree("fault", fault(k), done(told))?;
+        }
+        if told.code != DONE {
+            self.reached.note(&format!("fault: refused {}", told.code));
+            return Ok(());
+        }
+        if stores > 0 {
+            let cut = Answer {
+                code: CUT,
+                stores: stores - 1,
+                ..Answer::default()
+            };
+            agree("fault cut", fault(stores - 1), cut)?;
+            self.reached.note("fault: cut");
+        }
+        let reached = &mut *self.reached;
+        let shape = module::header(&state.image, 0).ok_or("taken without a header")?;
+        let one = told.group.count_ones() == 1;
+        reached.note_if(one, "fault: one board");
+        reached.note_if(!one, "fault: several boards");
+        reached.note_if(stores == 0, "fault: no block");
+        let several = stores as usize > shape.size() + 1;
+        reached.note_if(several, "fault: several blocks");
+        reached.note_if(tag_above(state, &shape), "fault: a tag above P");
+        let member = told.group & state.record.members != 0;
+        reached.note_if(member, "fault: a member of the open commit");
+        Ok(())
+    }
+
+    /// A start made next, and where it is taken the whole commit.
+    fn commit(&mut self, state: &State, board: usize, shape: Option<&Shape>) -> Result<(), String> {
+        let told = forecast::commit(&state.image, &state.record, board);
+        let length = shape.map_or_else(|| self.random.below(65), |shape| shape.context);
+        // 3 comes after 11, 12 and 1, and before 14.
+        let other = if length == 0 { 1 } else { length - 1 };
+        let code = if matches!(told.code, DONE | 14) {
+            3
+        } else {
+            told.code
+        };
+        let answer = self.start(state, board, other, UNCUT);
+        agree("start, not K bytes", answer, Answer::refused(code))?;
+        if told.code != DONE {
+            for k in [0, 1, UNCUT] {
+                let answer = self.start(state, board, length, k);
+                agree("start", answer, done(told))?;
+            }
+            self.reached.note(&format!("commit: refused {}", told.code));
+            return Ok(());
+        }
+        let shape = shape.ok_or("taken without a header")?;
+        let more = told.stores + self.random.within(1, 200) as u32;
+        for allowance in [told.stores, more] {
+            let made = self.whole_commit(state, shape, board, told, allowance)?;
+            agree("commit", made, Made::Done(told.stores))?;
+        }
+        let one_less = told.stores - 1;
+        let made = self.whole_commit(state, shape, board, told, one_less)?;
+        agree("commit, one store less", made, Made::Cut(one_less, true))?;
+        let less = self.random.below(told.stores as usize) as u32;
+        let made = self.whole_commit(state, shape, board, told, less)?;
+        let decided = made == Made::Cut(less, true);
+        agree("commit, fewer stores", made, Made::Cut(less, decided))?;
+        let reached = &mut *self.reached;
+        reached.note_if(decided, "commit: cut after the deciding store");
+        reached.note_if(!decided, "commit: cut before the deciding store");
+        let members = told.group.count_ones() as usize;
+        let contexts = 2 * members * shape.context;
+        let saved = told.stores as usize - 4 - contexts;
+        let outside = tags(state, shape)
+            .any(|tag| tag != 0 && tag <= shape.boards && told.group >> (tag - 1) & 1 == 0);
+        reached.note_if(members == 1, "commit: one member");
+        reached.note_if(members > 1, "commit: several members");
+        reached.note_if(members == 16, "commit: sixteen members");
+        reached.note_if(saved == 0, "commit: no block");
+        reached.note_if(saved > shape.size() + 1, "commit: several blocks");
+        reached.note_if(shape.context == 0, "commit: K is 0");
+        reached.note_if(outside, "commit: a block of a board outside");
+        reached.note_if(tag_above(state, shape), "commit: a tag above P");
+        Ok(())
+    }
+
+    /// The start and the other members' acknowledgements in any order, each
+    /// with what the earlier ones left of the allowance, other calls between.
+    fn whole_commit(
+        &mut self,
+        state: &State,
+        shape: &Shape,
+        board: usize,
+        told: Forecast,
+        allowance: u32,
+    ) -> Result<Made, String> {
+        let mut state = state.clone();
+        let mut order: Vec<usize> = (0..16)
+            .filter(|i| *i != board && told.group >> i & 1 == 1)
+            .collect();
+        self.random.shuffle(&mut order);
+        order.insert(0, board);
+        let mut left = allowance;
+        for (i, member) in order.iter().enumerate() {
+            let call = if i == 0 {
+                module::start
+            } else {
+                module::acknowledge
+            };
+            let context = self.bytes(shape.context);
+            let (answer, next) = call(&mut state.image, state.record, *member, &context, left);
+            left -= answer.stores;
+            if answer.code == CUT {
+                return Ok(Made::Cut(allowance - left, answer.decided));
+            }
+            let last = i + 1 == order.len();
+            let expected = Answer {
+                decided: last,
+                stores: answer.stores,
+                ..done(told)
+            };
+            agree("start or acknowledgement", answer, expected)?;
+            state.record = next;
+            for _ in 0..if last { 0 } else { self.random.below(4) } {
+                self.between(&mut state, shape);
+            }
+        }
+        Ok(Made::Done(allowance - left))
+    }
+
+    /// A call that the claim allows: no fault with a member in its group, no
+    /// power-up, nothing cut, no acknowledgement that counts.
+    fn between(&mut self, state: &mut State, shape: &Shape) {
+        let before = state.clone();
+        let record = state.record;
+        let outsiders: Vec<usize> = (0..shape.boards)
+            .filter(|i| record.members >> i & 1 == 0)
+            .collect();
+        let board = if outsiders.is_empty() || self.random.per_mille(200) {
+            self.random.within(0, shape.boards)
+        } else {
+            self.random.pick(&outsiders)
+        };
+        let size = shape.size();
+        let any = self.random.within(1, size);
+        let n = self.random.pick(&[1, any, size, size]);
+        let cell = self.random.below(shape.blocks) * size + self.random.below(size - n + 1);
+        let length = shape.context + self.random.pick(&[0, 0, 1]);
+        let bytes = self.bytes(n.max(length));
+        let image = &mut state.image;
+        let kind = self.random.below(10);
+        let (answer, next) = match kind {
+            0 | 1 => module::read(image, record, board, cell, n, &mut [0; 64]),
+            2..=5 => module::write(image, record, board, cell, &bytes[..n], UNCUT),
+            6 | 7 => module::fault(image, record, board, UNCUT),
+            8 => module::start(image, record, board, &bytes[..length], UNCUT),
+            _ => module::acknowledge(image, record, board, &bytes[..length], UNCUT),
+        };
+        let counts = kind == 9 && answer.code == DONE;
+        let rolls_back = matches!(kind, 6 | 7) && answer.group & record.members != 0;
+        if counts || rolls_back {
+            *state = before;
+            return;
+        }
+        state.record = next;
+        let reached = &mut *self.reached;
+        let changed = state.image != before.image;
+        reached.note_if(changed, "between: changed the image");
+        reached.note_if(next != record, "between: changed the record");
+        reached.note_if(
+            changed && answer.group != 0,
+            "between: a fault with a block",
+        );
+        reached.note_if(answer.code != DONE, "between: refused");
+    }
+
+    fn start(&mut self, state: &State, board: usize, length: usize, k: u32) -> Answer {
+        let context = self.bytes(length);
+        module::start(&mut state.image.clone(), state.record, board, &context, k).0
+    }
+
+    fn bytes(&mut self, count: usize) -> Vec<u8> {
+        (0..count).map(|_| self.random.below(256) as u8).collect()
+    }
+
+    /// Random rows and tags, sometimes a commit open.
+    fn scramble(&mut self, state: &mut State, shape: &Shape) {
+        let random = &mut self.random;
+        let boards = shape.boards;
+        let all = ((1_u32 << boards) - 1) as u16;
+        let mut record = Record::on();
+        let sparse = random.below(6);
+        for (i, row) in record.rows[..boards].iter_mut().enumerate() {
+            *row = all & !(1 << i);
+            for _ in 0..sparse {
+                *row &= random.below(65_536) as u16;
+            }
+        }
+        if boards > 1 && random.per_mille(200) {
+            let starter = random.below(boards);
+            let other = (starter + random.within(1, boards - 1)) % boards;
+            record.starter = starter as u16;
+            record.acknowledged = 1 << starter;
+            record.members = 1 << starter | 1 << other | all & random.below(65_536) as u16;
+        }
+        state.record = record;
+        let written = random.pick(&[0, 100, 500, 1000]);
+        for tag in &mut state.image[TAGS..][..shape.blocks] {
+            *tag = 0;
+            if random.per_mille(written) {
+                *tag = random.within(1, boards) as u8;
+            }
+        }
+    }
+
+    /// Something of header, length, tags or record becomes another, one to
+    /// three times.
+    fn spoil(&mut self, state: &mut State, shape: &Shape) {
+        let random = &mut self.random;
+        let State { image, record } = state;
+        for _ in 0..random.pick(&[1, 1, 2, 3]) {
+            let bit = 1 << random.below(16);
+            let board = random.below(16);
+            match random.below(12) {
+                0 => image[random.below(12)] ^= 1 << random.below(8),
+                1 => image[9] = random.pick(&[1, 2, 255]),
+                2..=4 => {
+                    let above = random.within(shape.boards + 1, 255);
+                    image[TAGS + random.below(shape.blocks)] = above as u8;
+                }
+                5 => record.on = false,
+                6 => record.rows[board] ^= bit,
+                7 => record.rows[board] |= 1 << board,
+                8 => record.members ^= bit,
+                9 => record.acknowledged ^= bit,
+                10 => record.acknowledged = record.members,
+                _ => record.starter = random.pick(&[0, 1, board as u16, 16, 255]),
+            }
+        }
+        if random.per_mille(100) {
+            let length = image.len();
+            image.resize(random.pick(&[0, 11, 12, length - 1, length + 1]), 0);
+        }
+    }
+}
+
+/// What a whole commit came to.
+#[derive(Debug, PartialEq)]
+enum Made {
+    Done(u32),
+    /// The stores made, and whether the deciding one is among them.
+    Cut(u32, bool),
+}
+
+/// The answer of a call that does all of the forecast and decides nothing.
+fn done(told: Forecast) -> Answer {
+    Answer {
+        code: told.code,
+        decided: false,
+        group: told.group,
+        stores: told.stores,
+    }
+}
+
+fn tags<'a>(state: &'a State, shape: &Shape) -> impl Iterator<Item = usize> + 'a {
+    let tags = &state.image[TAGS..][..shape.blocks];
+    tags.iter().map(|tag| usize::from(*tag))
+}
+
+fn tag_above(state: &State, shape: &Shape) -> bool {
+    tags(state, shape).any(|tag| tag > shape.boards)
+}
