@@ -5,7 +5,7 @@
 use crate::forecast::{self, Forecast};
 use crate::lines::{self, Room, LONGEST};
 use crate::module::{self, Answer, Record, Shape, CUT, DONE, TAGS, UNCUT};
-use crate::player::Player;
+use crate::player::{Player, MOST_LINES};
 use crate::random::Random;
 use std::collections::BTreeMap;
 use std::fmt::Debug;
@@ -76,7 +76,7 @@ pub fn file(mut input: &[u8], seed: u64, reached: &mut Reached) -> Result<(), St
     };
     let mut player = Player::default();
     let mut line = Vec::new();
-    while lines::next_line(&mut input, &mut line).unwrap_or(false) {
+    while player.number < MOST_LINES && lines::next_line(&mut input, &mut line).unwrap_or(false) {
         let mut room: Room = [0; LONGEST / 2];
         player.play(lines::parse(&line, &mut room).as_ref());
         if check.random.per_mille(70) {
