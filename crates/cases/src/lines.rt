@@ -57,6 +57,21 @@ fn same_line(image: &[u8], other: &[u8]) {
     io::write_all(1, b"\n");
 }
 
+// A forecast: status, group, stores.
+fn forecast_line(image: &[u8], state: Record, r: Request) {
+    let f = if r.letter == b'E' {
+        forecast::commit_forecast(image, state, r.a)
+    } else {
+        forecast::fault_forecast(image, state, r.a)
+    };
+    io::write_all(1, b" :");
+    tell::number(f.status as u64);
+    io::write_all(1, b" ");
+    io::print_hex(1, f.group as u64, 4);
+    tell::number(f.stores as u64);
+    io::write_all(1, b"\n");
+}
+
 // A line that is no call of the module but for Context and Same, and leaves the record.
 fn other_line(area: &mut [u8], n: usize, r: Request)
     requires { ⌜ (144000 ≤ length (now area)) × (n ≤ 36000) ⌝ }
@@ -120,6 +135,10 @@ fn play_request(area: &mut [u8], n: usize, r: Request, state: Record, shown: boo
 {
     if is_call(r.letter) {
         return call_line(area, n, r, state);
+    }
+    if r.letter == b'E' || r.letter == b'G' {
+        forecast_line(&area[0..n], state, r);
+        return state;
     }
     if r.letter >= b'a' && r.letter <= b'z' {
         io::write_all(1, b"\n");
