@@ -17,7 +17,6 @@ use Rattle.volatile.specs.declared.Record.{Record}
 use Rattle.protocol.specs.Image.{raw, shape-of, view}
 use Rattle.protocol.specs.Calls.{Request, first, refusals, Plan, plan, executed, perform}
 use Rattle.protocol.specs.declared.Shape.{Shape}
-use Rattle.protocol.specs.declared.Answer.{Answer}
 use Rattle.protocol.proofs.Bridge.{Sound, Valid}
 use Rattle.protocol.proofs.Outcomes.{decisive, made-decides, taken}
 use Rattle.protocol.proofs.Outcomes.{Finished, Result, turned-away, stopped, finished, result}
@@ -67,7 +66,7 @@ module _ {s : Shape} (image : List ℕ) (same : shape-of image ≡ s) (r : Recor
     done-answer k l =
         let ps = the-plan .stores in
         let long : ltb k (length (map (raw s) ps)) ≡ false = rw (length-map ps (raw s)) (le-ltb k (length ps) l) in
-        let all : take k (map (raw s) ps) ≡ map (raw s) ps = take-all k (map (raw s) ps) (rw (length-map ps (raw s)) l) in
+        let all : take k (map (raw s) ps) ≡ map (raw s) ps = take-all k _ (rw (length-map ps (raw s)) l) in
         let decided = made-decides s k ps (taken-valid .1) ∙ ap (anyOf decisive) (take-all k ps l) in
         ap (λ o. o .reply .answer) (taken image same r request passed k)
         ∙ rw (long, decided, all, length-map ps (raw s))

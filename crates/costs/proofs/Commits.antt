@@ -1,42 +1,39 @@
 -- The forecast of a commit is right, over every list of calls.
-use Prim.Native.Nat.{ℕ, suc, _+_, _-_, _*_, _^_, _≤_, _<_}
-use mathlib.Core.Path.{_≡_, refl, sym, _∙_, ap, ap₂, subst}
-use mathlib.Core.Bool.{Bool, true, false, _&&_, _||_, not, cond}
-use mathlib.Core.List.{List, [], _∷_, _++_}
+use Prim.Native.Nat.{ℕ, suc, _+_, _-_, _*_, _≤_}
+use mathlib.Core.Path.{_≡_, refl, sym, _∙_, ap, ap₂}
+use mathlib.Core.Bool.{true, false, _||_, not, cond}
+use mathlib.Core.List.{List, [], _∷_}
 use mathlib.Core.Logic.{⊎-elim, _≢_, _⊎_, inl, inr}
 use lib.Dec.{eqb, leb}
 use lib.ListN.{length}
 use native.Mathlib.Omega.{arith}
 use borrow.Author.Tests.{eq-eqb, eqb-true, eqb-false, leb-true}
 use Rattle.boards.specs.Lists.{anyOf}
-use Rattle.boards.specs.Boards.{has, commit-group}
 use Rattle.boards.proofs.Basics.{decide, clash, and-true, true-and, and-false, or-false, false-or, false-and}
 use Rattle.boards.proofs.Basics.{if-true, if-false}
-use Rattle.boards.proofs.Groups.{has-zero, commit-group-self, commit-group-small, commit-group-within}
-use Rattle.volatile.specs.Volatile.{depends, opened}
 use Rattle.volatile.specs.declared.Record.{Record}
-use Rattle.volatile.proofs.Order.{orderly, rows-within}
-use Rattle.protocol.specs.Image.{Memory, shape-of, view}
-use Rattle.protocol.specs.Calls.{Start, Test, first, refusals, entry-tests, start-tests, plan}
+use Rattle.protocol.specs.Image.{Memory, shape-of}
+use Rattle.protocol.specs.Calls.{Start, Test, first, refusals, entry-tests, start-tests}
 use Rattle.protocol.specs.Calls.{refused as refuse, refusal-at, perform}
 use Rattle.protocol.specs.Claim.{Call}
 use Rattle.protocol.specs.declared.Shape.{Shape}
 use Rattle.protocol.specs.declared.Answer.{Answer}
-use Rattle.protocol.proofs.Bridge.{limits, board-small}
 use Rattle.protocol.proofs.Outcomes.{turned-down}
-use Rattle.protocol.proofs.Refusals.{Entered, begun, first-held, first-passed, first-stops, entry-goes-on}
-use Rattle.costs.specs.Forecasts.{commit-cost, commit-tests, commit-forecast}
-use Rattle.costs.specs.Claims.{answer-of, foretold, Answered-call, played, is-done, is-cut, commits, of-commit}
-use Rattle.costs.specs.Claims.{ends-commit, until-decided, drops-commit, another-group, cost, total-cost, supplied}
+use Rattle.protocol.proofs.Refusals.{first-held, first-stops, entry-goes-on}
+use Rattle.costs.specs.Forecasts.{commit-cost, commit-forecast}
+use Rattle.costs.specs.Claims.{answer-of, Answered-call, played, is-done, is-cut, of-commit, ends-commit}
+use Rattle.costs.specs.Claims.{until-decided, drops-commit, commit-cut, another-group, cost, total-cost, supplied}
 use Rattle.costs.specs.Claims.{Start-foretold, Commit-refused-alike, Commit-forecast-right, Supply-suffices}
-use Rattle.costs.proofs.Answers.{answered-status, answered-refused, answered-taken, done-or-cut}
-use Rattle.costs.proofs.Counted.{commit-counted, count-none}
+use Rattle.costs.proofs.Answers.{answered-refused, done-or-cut}
+use Rattle.costs.proofs.Counted.{commit-counted}
 use Rattle.costs.proofs.Starts.{s, m, g, number, status, figures, start-number, passed, group, giving}
-use Rattle.costs.proofs.Turns.{figure, Grouped, Open, Turn, aside, breaks, gives, ends, stops, Giving, given-turn}
-use Rattle.costs.proofs.Turns.{called, no-power-up, refused-call, off-refused, turn}
+use Rattle.costs.proofs.Opened.{called, no-power-up, refused-call, off-refused, figure, Grouped, Open}
+use Rattle.costs.proofs.Opened.{Turn, aside, breaks, gives, ends, stops}
+use Rattle.costs.proofs.Given.{given-turn}
+use Rattle.costs.proofs.Turns.{turn}
 
 module _ (s : Shape) (g : ℕ) (m₀ : Memory) where
-  -- of the calls from a point on where n members have acknowledged: their groups, and the sum that is still to be stored
+  -- of the calls from a point on where n members have acknowledged: their groups, and the sum still to be stored
   abbrev Sums : ℕ → List Answered-call → Type 0
   Sums n run =
       anyOf (λ x. drops-commit g x || is-cut x) run ≡ false
@@ -47,7 +44,7 @@ module _ (s : Shape) (g : ℕ) (m₀ : Memory) where
   abbrev Suffices : ℕ → List Answered-call → Type 0
   Suffices n run =
       (left : ℕ) → figure s g m₀ ≤ n * s .context + left → supplied g left run ≡ true
-      → anyOf (drops-commit g) run ≡ false → anyOf (λ x. of-commit g x && is-cut x) run ≡ false
+      → anyOf (drops-commit g) run ≡ false → anyOf (commit-cut g) run ≡ false
 
   pub record Told (n : ℕ) (run : List Answered-call) : Type 0 where
     pub sums : Sums n run
@@ -69,7 +66,7 @@ module _ (s : Shape) (g : ℕ) (m₀ : Memory) where
 
   module _ (n : ℕ) (x : Answered-call) where
     -- a call that does not decide, after which as much less is to be stored as it stored
-    told-more : {n′ : ℕ} {run : List Answered-call} → of-commit g x && is-cut x ≡ false → another-group g x ≡ false
+    told-more : {n′ : ℕ} {run : List Answered-call} → commit-cut g x ≡ false → another-group g x ≡ false
         → ends-commit g x ≡ false → n * s .context + cost g x ≡ n′ * s .context → Told n′ run → Told n (x ∷ run)
     unfolding anyOf total-cost supplied
     told-more {run = run} whole right late less t =
@@ -89,7 +86,7 @@ module _ (s : Shape) (g : ℕ) (m₀ : Memory) where
         }
 
     -- the deciding call
-    told-last : of-commit g x && is-cut x ≡ false → another-group g x ≡ false
+    told-last : commit-cut g x ≡ false → another-group g x ≡ false
         → n * s .context + cost g x ≡ figure s g m₀ → Told n (x ∷ [])
     unfolding anyOf total-cost
     told-last whole right all =
@@ -101,13 +98,15 @@ module _ (s : Shape) (g : ℕ) (m₀ : Memory) where
     -- a call that is cut: one of the commit had less than was left, after another the record is off
     told-cut : {run : List Answered-call} → is-cut x ≡ true → ((left : ℕ) → figure s g m₀ ≤ n * s .context + left
         → supplied g left (x ∷ run) ≡ true → anyOf (drops-commit g) run ≡ false
-        → anyOf (λ x. of-commit g x && is-cut x) (x ∷ run) ≡ false)
+        → anyOf (commit-cut g) (x ∷ run) ≡ false)
         → Told n (x ∷ run)
     unfolding anyOf
     told-cut short rest =
         record {
           sums =
-              λ e. clash short (or-false (drops-commit g x) (is-cut x) (or-false (drops-commit g x || is-cut x) _ e .0) .1);
+              λ e.
+              let now = or-false (drops-commit g x || is-cut x) _ e .0 in
+              clash short (or-false (drops-commit g x) (is-cut x) now .1);
           suffices = λ left enough given calm. rest left enough given (or-false (drops-commit g x) _ calm .1);
         }
 
@@ -119,12 +118,13 @@ module _ (s : Shape) (g : ℕ) (m₀ : Memory) where
       by-turn : {image : List ℕ} {r : Record} → Turn s g m₀ n x image r
           → ((n′ : ℕ) → Open s g m₀ image r n′ → Told n′ (until-decided g xs))
           → (r .on ≡ false → anyOf (drops-commit g) (until-decided g xs) ≡ false
-          → anyOf (λ x. of-commit g x && is-cut x) (until-decided g xs) ≡ false)
+          → anyOf (commit-cut g) (until-decided g xs) ≡ false)
           → Told n (until-decided g (x ∷ xs))
       unfolding until-decided anyOf supplied
       by-turn (aside out w) rest off =
           let none = if-false (x .answer .stores) 0 out in
-          more (false-and _ out) (told-more (false-and _ out) (false-and _ out) (false-and _ out) (omega arith) (rest n w))
+          more (false-and _ out)
+          (told-more (false-and _ out) (false-and _ out) (false-and _ out) (omega arith) (rest n w))
       by-turn (breaks out short down) rest off =
           more (false-and _ out) (told-cut short (λ left enough given calm. false-or (false-and _ out) (off down calm)))
       by-turn (gives own e w) rest off =
@@ -148,7 +148,7 @@ module _ (s : Shape) (g : ℕ) (m₀ : Memory) where
       told-first : {image : List ℕ} {r : Record} → (drops-commit g x ≡ false → Turn s g m₀ n x image r)
           → ((n′ : ℕ) → Open s g m₀ image r n′ → Told n′ (until-decided g xs))
           → (r .on ≡ false → anyOf (drops-commit g) (until-decided g xs) ≡ false
-          → anyOf (λ x. of-commit g x && is-cut x) (until-decided g xs) ≡ false)
+          → anyOf (commit-cut g) (until-decided g xs) ≡ false)
           → Told n (until-decided g (x ∷ xs))
       unfolding until-decided anyOf
       told-first turned rest off =
@@ -165,7 +165,7 @@ module _ (s : Shape) (g : ℕ) (m₀ : Memory) where
   -- while the record is off every call but a power-up is refused
   off-run : (calls : List Call) (image : List ℕ) (r : Record) → r .on ≡ false
       → let run = until-decided g (played image r calls) in
-      anyOf (drops-commit g) run ≡ false → anyOf (λ x. of-commit g x && is-cut x) run ≡ false
+      anyOf (drops-commit g) run ≡ false → anyOf (commit-cut g) run ≡ false
   unfolding played until-decided anyOf
   off-run [] image r down calm = refl
   off-run (c ∷ cs) image r down calm =
@@ -179,7 +179,7 @@ module _ (s : Shape) (g : ℕ) (m₀ : Memory) where
       ≡ until-decided g (played image r cs) =
       if-false _ _ (false-and _ out) ∙ ap₂ (λ a b. until-decided g (played a b cs)) (same .1) (same .2) in
       false-or (false-and _ out)
-      (ap (anyOf (λ x. of-commit g x && is-cut x)) late
+      (ap (anyOf (commit-cut g)) late
       ∙ off-run cs image r down (sym (ap (anyOf (drops-commit g)) late) ∙ now .1))
 
   -- from a point on where the commit is open
@@ -212,7 +212,8 @@ module _ (image : List ℕ) (r : Record) (i : ℕ) (context : List ℕ) (full : 
         let o = perform image r (Start i context) k in
         let boards = group image r i context full z in
         let given = giving image r i context full z in
-        told-first _ members (m image r i) 0 (called image r (Start i context) k) (played (o .image) (o .reply .next) calls)
+        let rest = played (o .image) (o .reply .next) calls in
+        told-first _ members (m image r i) 0 (called image r (Start i context) k) rest
         (λ calm. given-turn _ members (m image r i) boards image r (Start i context) _ i context given k)
         (told _ members (m image r i) boards calls (o .image) (o .reply .next))
         (off-run (s image r i) members (m image r i) calls (o .image) (o .reply .next))
@@ -242,13 +243,14 @@ start-alike image r i context k same =
           λ some.
           let other : n ≢ 0 = λ z. some (status image r i ∙ z) in
           ap (λ o. o .reply .answer) (turned-down image refl r (Start i context) (λ z. other (sym same ∙ z)) k)
-          ∙ rw (same, answered-refused {n = n} (g image r i) (commit-cost (s image r i) (m image r i) (g image r i)) other);
+          ∙ rw (same, answered-refused {n = n} _ (commit-cost (s image r i) (m image r i) (g image r i)) other);
       taken = λ z. done-or-cut image refl r (Start i context) (same ∙ sym (status image r i) ∙ z) k;
     }
 
 pub commit-refused-alike : Commit-refused-alike
 unfolding refusals start-tests refuse
-commit-refused-alike image r i context k = (any-context, λ full. start-alike image r i context k (start-number image r i context full))
+commit-refused-alike image r i context k =
+    (any-context, λ full. start-alike image r i context k (start-number image r i context full))
   where
     entry-number : ℕ
     entry-number = first (entry-tests image r i)

@@ -1,7 +1,7 @@
 -- A commit whose forecast is not refused can be made: the start and one acknowledgement by each other member decide it.
 use Prim.Native.Nat.{ℕ, zero, suc, _+_, _*_, _^_, _≤_, _<_}
-use mathlib.Core.Path.{_≡_, refl, sym, _∙_, ap, subst}
-use mathlib.Core.Bool.{Bool, true, false, _&&_, _||_, not, cond}
+use mathlib.Core.Path.{_≡_, refl, sym, _∙_, ap}
+use mathlib.Core.Bool.{Bool, true, false, _&&_, not}
 use mathlib.Core.List.{List, [], _∷_, _++_, map, append-nil}
 use mathlib.Core.Logic.{⊎-elim, _≢_}
 use lib.Dec.{eqb}
@@ -11,8 +11,9 @@ use native.Mathlib.Omega.{arith}
 use borrow.Author.Tests.{eq-eqb, ne-eqb, eqb-true, lt-leb}
 use Rattle.boards.specs.Lists.{for, anyOf}
 use Rattle.boards.specs.Boards.{has, with-board, beyond}
-use Rattle.boards.proofs.Basics.{decide, clash, true-and, false-and, and-false, and-true, or-right, true-or, or-false, false-or}
-use Rattle.boards.proofs.Basics.{if-true, test-ext, eqb-same, not-true, not-false, All, none, also, all-append, all-cond, all-for, all-map, row-fits}
+use Rattle.boards.proofs.Basics.{decide, clash, true-and, and-false, and-true, or-right, true-or, or-false, false-or}
+use Rattle.boards.proofs.Basics.{if-true, test-ext, eqb-same, not-true, not-false, All, none, also, all-append}
+use Rattle.boards.proofs.Basics.{all-cond, all-for, all-map, row-fits}
 use Rattle.boards.proofs.Groups.{count, has-with, has-zero}
 use Rattle.volatile.specs.Volatile.{engaged, commit-of, opened, bad-record, bad-commit, bad-closed}
 use Rattle.volatile.specs.declared.Record.{Record}
@@ -20,19 +21,18 @@ use Rattle.volatile.proofs.Order.{orderly}
 use Rattle.protocol.specs.Image.{Memory, in-order, shape-of, view}
 use Rattle.protocol.specs.Calls.{Request, Start, Acknowledge, first, refusals, entry-tests, start-tests}
 use Rattle.protocol.specs.Calls.{acknowledge-tests, plan, perform}
-use Rattle.protocol.specs.Ledger.{done}
 use Rattle.protocol.specs.Claim.{Call, verdict}
 use Rattle.protocol.specs.declared.Shape.{Shape}
 use Rattle.protocol.proofs.Order.{order-kept}
 use Rattle.protocol.proofs.Refusals.{begun, start-passed}
-use Rattle.costs.specs.Forecasts.{those, commit-forecast}
-use Rattle.costs.specs.Claims.{Answered-call, played, is-done, is-cut, commits, of-commit, ends-commit, cost}
+use Rattle.costs.specs.Forecasts.{those}
+use Rattle.costs.specs.Claims.{Answered-call, played, is-done, is-cut, commits, of-commit, ends-commit}
 use Rattle.costs.specs.Claims.{total-cost, commit-calls, Commit-completes}
 use Rattle.costs.proofs.Counted.{length-those, count-one-more, commit-counted}
 use Rattle.costs.proofs.Starts.{s, m, g, number, status, figures, passed, entry, member, group}
 use Rattle.costs.proofs.Starts.{giving as start-giving}
-use Rattle.costs.proofs.Turns.{figure, Grouped, Open, Giving, called, acks-less, some-answer}
-use Rattle.costs.proofs.Turns.{some-acks, some-open, all-count, all-answer}
+use Rattle.costs.proofs.Opened.{figure, Grouped, Open, called}
+use Rattle.costs.proofs.Given.{Giving, acks-less, some-answer, some-acks, some-open, all-count, all-answer}
 
 -- ---- lists of numbers
 
@@ -76,7 +76,7 @@ ready-next image r request k same small e =
     let left = order-kept image r request k small (rw e) in
     record {
       ordered = left .header;
-      recorded = subst (λ t. bad-record (t .boards) (perform image r request k .reply .next) ≡ false) same (left .state);
+      recorded = ap (λ t. bad-record (t .boards) (perform image r request k .reply .next)) (sym same) ∙ left .state;
       small = left .small;
     }
 
@@ -115,18 +115,14 @@ module _ (s : Shape) (g : ℕ) (m₀ : Memory) (group : Grouped s g m₀) (conte
     unfolding plan commits
     giving image r j w ready may =
         record {
-          shape = w .shape;
+          before-it = w;
           passed = taken image r j w ready may;
           planned = refl;
           own = may .1;
           board = may .0;
           full = full j;
-          members = w .members;
           member = may .1;
           awaited = may .2;
-          inside = w .inside;
-          given = w .given;
-          tags = w .tags;
         }
 
     -- a call of the commit, and the acknowledgements that are left: none after the deciding one
@@ -205,7 +201,7 @@ module _ (s : Shape) (g : ℕ) (m₀ : Memory) (group : Grouped s g m₀) (conte
             let given = some-acks s g m₀ group image r request before i (context i) h e k l in
             more e l
             (rest (some-open s g m₀ group image r request before i (context i) h e k l)
-            (ready-next image r request k (h .shape) small (ap (λ y. y .status) a))
+            (ready-next image r request k (h .before-it .shape) small (ap (λ y. y .status) a))
             (still (j ∷ js) given may apart)))
             (decide (eqb acks g))
 
@@ -216,7 +212,8 @@ module _ (s : Shape) (g : ℕ) (m₀ : Memory) (group : Grouped s g m₀) (conte
     unfolding played
     go [] image r w ready none empty many = let less = w .less in absurd (omega arith)
     go (j ∷ js) image r w ready (also may rest) (first-of apart d) many =
-        completes image r (Acknowledge j (context j)) r j (giving image r j w ready may) js (ready .small) many rest apart
+        completes image r (Acknowledge j (context j)) r j (giving image r j w ready may) js (ready .small) many rest
+        apart
         (λ w ready may. go js _ _ w ready may d (omega arith))
 
 -- ---- the claim
@@ -272,7 +269,8 @@ module _ (image : List ℕ) (r : Record) (i : ℕ) (context : ℕ → List ℕ)
     unfolding played commit-calls opened refusals
     completed =
         let entered = entry image r i (context i) (full i) z in
-        let tests = begun image r i (start-tests shape r (length (context i))) refl (passed image r i (context i) (full i) z) in
+        let taken = passed image r i (context i) (full i) z in
+        let tests = begun image r i (start-tests shape r (length (context i))) refl taken in
         let free = start-passed shape r (length (context i)) (tests .1) .none-open in
         completes shape members start-memory boards context full k enough image r (Start i (context i))
         (opened r i members) i (start-giving image r i (context i) (full i) z) others

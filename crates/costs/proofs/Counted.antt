@@ -2,9 +2,8 @@
 use Prim.Native.Nat.{ℕ, zero, suc, _+_, _*_, _≤_, _<_}
 use mathlib.Core.Path.{_≡_, refl, sym, _∙_, ap}
 use mathlib.Core.Bool.{Bool, true, false, _||_, cond, or-false}
-use mathlib.Core.List.{List, [], _∷_}
+use mathlib.Core.List.{[], _∷_}
 use mathlib.Core.Logic.{⊎-elim, _≢_}
-use lib.Dec.{eqb}
 use lib.ListN.{length}
 use native.Mathlib.Omega.{arith}
 use borrow.Author.Tests.{ne-eqb}
@@ -36,13 +35,14 @@ those-most n p = omega (arith, length-those n p, count-le n p)
 pub blocks-counted : (s : Shape) (m : Memory) (g : ℕ)
     → blocks-cost s m g ≡ count (s .blocks) (λ b. tagged-in g (m Tags b)) * (s .size + 1)
 unfolding blocks-cost tagged-blocks
-blocks-counted s m g = rw (length-those (s .blocks) (λ b. tagged-in g (m Tags b)))
+blocks-counted s m g = ap (λ c. c * (s .size + 1)) (length-those (s .blocks) (λ b. tagged-in g (m Tags b)))
 
 pub commit-counted : (s : Shape) (m : Memory) (g : ℕ)
     → let contexts = count (s .boards) (has g) * s .context in
     commit-cost s m g ≡ contexts + (4 + count (s .blocks) (λ b. tagged-in g (m Tags b)) * (s .size + 1) + contexts)
 unfolding commit-cost boards-of
-commit-counted s m g = rw (blocks-counted s m g, length-those (s .boards) (has g))
+commit-counted s m g =
+    omega (arith, blocks-counted s m g, ap (λ c. c * s .context) (length-those (s .boards) (has g)))
 
 pub count-same : (n : ℕ) (p q : ℕ → Bool) → ((i : ℕ) → i < n → p i ≡ q i) → count n p ≡ count n q
 unfolding count
@@ -53,6 +53,15 @@ pub count-none : (n : ℕ) (p : ℕ → Bool) → ((i : ℕ) → p i ≡ false) 
 unfolding count
 count-none zero p h = refl
 count-none (suc n) p h = rw (h n, count-none n p h)
+
+pub count-some : (n : ℕ) (p : ℕ → Bool) (i : ℕ) → i < n → p i ≡ true → 0 < count n p
+unfolding count
+count-some zero p i l e = absurd (omega arith)
+count-some (suc n) p i l e =
+    ⊎-elim
+    (λ (k : i < n). omega (arith, count-some n p i k e))
+    (λ (k : i ≡ n). rw (ap p (sym k) ∙ e) (omega arith))
+    (below-suc i n l)
 
 -- one number more, below n
 pub count-one-more : (n : ℕ) (p q : ℕ → Bool) (i : ℕ) → i < n → p i ≡ false → q i ≡ true
@@ -65,11 +74,13 @@ count-one-more (suc n) p q i l without within same =
     rw (same n (omega arith) (omega arith), count-one-more n p q i k without within (λ j b e. same j (omega arith) e))
     (omega arith))
     (λ (k : i ≡ n).
-    rw (count-same n q p (λ j b. same j (omega arith) (omega arith)), ap q (sym k) ∙ within, ap p (sym k) ∙ without) (omega arith))
+    let before = count-same n q p (λ j b. same j (omega arith) (omega arith)) in
+    rw (before, ap q (sym k) ∙ within, ap p (sym k) ∙ without) (omega arith))
     (below-suc i n l)
 
 -- a set with one board more
 pub count-with : (p g i : ℕ) → p ≤ 16 → i < p → has g i ≡ false → count p (has (with-board g i)) ≡ suc (count p (has g))
 count-with p g i most l without =
-    count-one-more p (has g) (has (with-board g i)) i l without (has-with g i i (omega arith) ∙ or-right (has g i) (eqb-same i))
+    count-one-more p (has g) (has (with-board g i)) i l without
+    (has-with g i i (omega arith) ∙ or-right (has g i) (eqb-same i))
     (λ j b e. has-with g i j (omega arith) ∙ ap (λ t. has g j || t) (ne-eqb i j e) ∙ or-false (has g j))

@@ -1,6 +1,6 @@
 -- The forecast of a fault is right.
 use Prim.Native.Nat.{ℕ, _≤_, _<_}
-use mathlib.Core.Path.{_≡_, refl, sym, _∙_, ap, subst}
+use mathlib.Core.Path.{_≡_, refl, sym, _∙_, ap}
 use mathlib.Core.Bool.{true, false}
 use mathlib.Core.List.{List}
 use mathlib.Core.Logic.{⊎-elim, _≢_}
@@ -13,13 +13,13 @@ use Rattle.boards.proofs.Basics.{decide}
 use Rattle.volatile.specs.Volatile.{depends}
 use Rattle.volatile.specs.declared.Record.{Record}
 use Rattle.protocol.specs.Image.{Memory, Recovery, Current, shape-of, view}
-use Rattle.protocol.specs.Calls.{Fault, first, refusals, entry-tests, blocks-copied, plan, refused}
+use Rattle.protocol.specs.Calls.{Fault, first, refusals, blocks-copied, plan, refused}
 use Rattle.protocol.specs.declared.Shape.{Shape}
 use Rattle.protocol.proofs.Copies.{blocks-inside, current}
 use Rattle.protocol.proofs.Counts.{length-blocks}
 use Rattle.protocol.proofs.Outcomes.{turned-down}
 use Rattle.protocol.proofs.Plans.{inside-indecisive}
-use Rattle.costs.specs.Forecasts.{blocks-cost, answered, fault-forecast}
+use Rattle.costs.specs.Forecasts.{blocks-cost, fault-forecast}
 use Rattle.costs.specs.Claims.{answer-of, Fault-foretold, Fault-forecast-right}
 use Rattle.costs.proofs.Answers.{answered-refused, answered-taken, done-answer, cut-status}
 use Rattle.costs.proofs.Counted.{blocks-counted}
@@ -41,10 +41,6 @@ module _ (image : List ℕ) (r : Record) (i : ℕ) where
   number = first (refusals image s m r (Fault i))
 
   module _ (z : number ≡ 0) where
-    figures : fault-forecast image r i ≡ record { status = 0; group = g; stores = blocks-cost s m g }
-    unfolding fault-forecast refusals
-    figures = answered-taken g (blocks-cost s m g) z
-
     done : (k : ℕ) → blocks-cost s m g ≤ k
         → answer-of image r (Fault i) k ≡ record { status = 0; decided = false; group = g; stores = blocks-cost s m g }
     unfolding plan
@@ -57,7 +53,8 @@ module _ (image : List ℕ) (r : Record) (i : ℕ) where
     cut k l = cut-status image refl r (Fault i) z k (rw restored l)
 
     taken : Fault-foretold image r i (fault-forecast image r i)
-    taken = rw figures (record { enough = done; short = cut })
+    unfolding fault-forecast refusals
+    taken = rw (answered-taken {n = number} _ _ z) (record { enough = done; short = cut })
 
   refused-alike : number ≢ 0 → Fault-foretold image r i (fault-forecast image r i)
   unfolding fault-forecast refusals refused

@@ -1,8 +1,8 @@
 -- While a commit is open, no call that is done moves a tag to or from one of its members, but for the deciding one.
 use Prim.Native.Nat.{ℕ, zero, suc, _^_, _<_}
 use mathlib.Core.Path.{_≡_, refl, sym, _∙_, ap}
-use mathlib.Core.Bool.{true, false, _||_, _&&_}
-use mathlib.Core.List.{List, [], _∷_, _++_, map}
+use mathlib.Core.Bool.{true, false, _&&_}
+use mathlib.Core.List.{List, [], _∷_, map}
 use mathlib.Core.Logic.{⊎-elim, _≢_}
 use lib.Dec.{eqb}
 use native.Mathlib.Omega.{arith}
@@ -10,8 +10,8 @@ use borrow.Author.Tests.{eqb-true}
 use Rattle.boards.specs.Lists.{anyOf}
 use Rattle.boards.specs.Boards.{has, meets, tagged-in}
 use Rattle.boards.proofs.Basics.{decide, clash, refute, and-true, or-false, All, none, also, all-append, all-cond}
-use Rattle.boards.proofs.Groups.{has-zero, has-below, meets-no}
-use Rattle.protocol.specs.Image.{Area, Tags, Current, Recovery, Tentative, Memory, Put, put, rank, change, after}
+use Rattle.boards.proofs.Groups.{has-below, meets-no}
+use Rattle.protocol.specs.Image.{Area, Tags, Current, Recovery, Memory, Put, put, rank, change, after}
 use Rattle.protocol.specs.Calls.{placing, tagging, blocks-copied}
 use Rattle.protocol.specs.declared.Shape.{Shape}
 use Rattle.protocol.proofs.Copies.{all-placing, all-blocks}

@@ -2,6 +2,8 @@ pub mod Answers
 pub mod Counted
 pub mod Faults
 pub mod Kept
+pub mod Opened
+pub mod Given
 pub mod Turns
 pub mod Starts
 pub mod Commits

@@ -1,9 +1,8 @@
 -- The start that a commit forecast speaks of: its number, and what it gives to the commit that it opens.
 use Prim.Native.Nat.{ℕ, _<_}
-use mathlib.Core.Path.{_≡_, refl, sym, _∙_, ap}
+use mathlib.Core.Path.{_≡_, refl, _∙_, ap}
 use mathlib.Core.Bool.{true, not, cond}
 use mathlib.Core.List.{List, [], _∷_, _++_}
-use lib.Dec.{eqb}
 use lib.ListN.{length}
 use borrow.Author.Tests.{eq-eqb}
 use Rattle.boards.specs.Boards.{has, commit-group}
@@ -20,8 +19,9 @@ use Rattle.protocol.proofs.Refusals.{Entered, begun, first-passed}
 use Rattle.costs.specs.Forecasts.{commit-cost, commit-tests, commit-forecast}
 use Rattle.costs.specs.Claims.{commits}
 use Rattle.costs.proofs.Answers.{answered-status, answered-taken}
-use Rattle.costs.proofs.Counted.{count-none}
-use Rattle.costs.proofs.Turns.{Grouped, Giving}
+use Rattle.costs.proofs.Counted.{count-none, count-some}
+use Rattle.costs.proofs.Opened.{Grouped}
+use Rattle.costs.proofs.Given.{Giving}
 
 -- tests that give one number do so behind others, too
 first-tail : (ts us vs : List Test) → first us ≡ first vs → first (ts ++ us) ≡ first (ts ++ vs)
@@ -54,7 +54,8 @@ module _ (image : List ℕ) (r : Record) (i : ℕ) where
     pub start-number : refusal-at image r (Start i context) ≡ number
     unfolding refusals start-tests
     start-number =
-        first-tail (entry-tests image r i) (start-tests s r (length context)) _ (first-passed 3 _ (ap not (eq-eqb (length context) (s .context) full)))
+        first-tail (entry-tests image r i) (start-tests s r (length context)) _
+        (first-passed 3 _ (ap not (eq-eqb (length context) (s .context) full)))
 
     module _ (z : number ≡ 0) where
       pub passed : refusal-at image r (Start i context) ≡ 0
@@ -85,16 +86,20 @@ module _ (image : List ℕ) (r : Record) (i : ℕ) where
       unfolding plan opened commits
       giving =
           record {
-            shape = refl;
+            before-it =
+                record {
+                  shape = refl;
+                  members = refl;
+                  inside = λ j y. clash y (has-zero j);
+                  given = count-none (s .boards) (has 0) has-zero;
+                  less = count-some (s .boards) (has g) i (entry .board) member;
+                  tags = λ b. refl;
+                };
             passed = passed;
             planned = refl;
             own = member;
             board = entry .board;
             full = full;
-            members = refl;
             member = member;
             awaited = has-zero i;
-            inside = λ j y. clash y (has-zero j);
-            given = count-none (s .boards) (has 0) has-zero;
-            tags = λ b. refl;
           }

@@ -1,5 +1,5 @@
--- That forecasts are right (document 02, Req 02): of a fault made next, and of a commit started next, over every list of
--- calls up to its decision. Any image and record, not only those that a list of calls leaves.
+-- That forecasts are right (document 02, Req 02): of a fault made next, and of a commit started next, over every list
+-- of calls up to its decision. Any image and record, not only those that a list of calls leaves.
 use Prim.Native.Nat.{ℕ, _+_, _-_, _≤_, _<_}
 use mathlib.Core.Path.{_≡_}
 use mathlib.Core.Bool.{Bool, true, false, _&&_, _||_, not, cond}
@@ -89,7 +89,10 @@ drops g Power-up group = true
 abbrev pub drops-commit : ℕ → Answered-call → Bool
 drops-commit g x = drops g (x .request) (x .answer .group)
 
--- a call of the commit, done with another group than g
+-- a call of the commit that is cut; one that is done, but with another group than g
+abbrev pub commit-cut : ℕ → Answered-call → Bool
+commit-cut g x = of-commit g x && is-cut x
+
 abbrev pub another-group : ℕ → Answered-call → Bool
 another-group g x = of-commit g x && (is-done x && not (eqb (x .answer .group) g))
 
@@ -127,9 +130,9 @@ commit-run image r i context k calls =
     until-decided (commit-forecast image r i .group)
     (played image r (record { request = Start i context; k = k } ∷ calls))
 
--- Where the forecast is not refused, and up to the decision no call is cut and none drops the commit: the start is done; it
--- and every done acknowledgement of a member answer the forecast's group; if the commit is decided, their stores add up
--- to the figure.
+-- Where the forecast is not refused, and up to the decision no call is cut and none drops the commit: the start is
+-- done; it and every done acknowledgement of a member answer the forecast's group; if the commit is decided, their
+-- stores add up to the figure.
 abbrev pub Commit-forecast-right : Type 0
 Commit-forecast-right =
     (image : List ℕ) (r : Record) (i : ℕ) (context : List ℕ) (k : ℕ) (calls : List Call)
@@ -154,13 +157,14 @@ Supply-suffices =
     → f .stores ≤ supply
     → supplied (f .group) supply run ≡ true
     → anyOf (drops-commit (f .group)) run ≡ false
-    → anyOf (λ x. of-commit (f .group) x && is-cut x) run ≡ false
+    → anyOf (commit-cut (f .group)) run ≡ false
 
 -- the start and one acknowledgement by each other member, ascending, each allowed k stores
 unfoldable pub commit-calls : Shape → ℕ → ℕ → (ℕ → List ℕ) → ℕ → List Call
 commit-calls s g i context k =
     record { request = Start i (context i); k = k }
-    ∷ map (λ j. record { request = Acknowledge j (context j); k = k }) (those (s .boards) (λ j. has g j && not (eqb i j)))
+    ∷ map (λ j. record { request = Acknowledge j (context j); k = k })
+    (those (s .boards) (λ j. has g j && not (eqb i j)))
 
 -- The commit can be made: with contexts of K bytes and allowances of at least the figure these calls are all done,
 -- they decide, and their stores add up to the figure.

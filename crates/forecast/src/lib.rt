@@ -1,5 +1,5 @@
-// Forecasts: what a commit that a board starts next, or a fault of it made next, will answer and store (document 02, Req 02).
-// Nothing is stored, and the record stays as it is.
+// Forecasts: what a commit that a board starts next, or a fault of it made next, will answer and store (document 02,
+// Req 02). Nothing is stored, and the record stays as it is.
 use boards::sets::has;
 use boards::sets::tagged_in;
 use costs::Forecast;
@@ -65,8 +65,7 @@ fn blocks_cost(image: &[u8], s: Shape, g: u16) -> usize
     tagged_count(image, s, g) * (s.size + 1)
 }
 
-// The stores of a whole commit: the contexts given, the group, the decision and byte 9 set back, the blocks, the contexts
-// saved.
+// The stores of a whole commit: the contexts given; group and decision, the blocks, the contexts saved, byte 9 again.
 fn commit_cost(image: &[u8], s: Shape, g: u16) -> usize
     requires { ⌜ (allowed s ≡ true) × (length (now image) ≡ total s) ⌝ }
     ensures { λ r. ⌜ r ≡ commit-cost s (view s (now (image .entry))) g ⌝ }

@@ -1,0 +1,202 @@
+-- A context given to the commit of g, by a start or an acknowledgement: it stays open, is decided, or the call is cut.
+use Prim.Native.Nat.{ℕ, suc, _+_, _*_, _≤_, _<_}
+use mathlib.Core.Path.{_≡_, sym, _∙_, ap, subst}
+use mathlib.Core.Bool.{true, false, _||_}
+use mathlib.Core.List.{List, _++_, append-nil}
+use mathlib.Core.Logic.{⊎-elim}
+use lib.Dec.{eqb}
+use lib.ListN.{length, length-append}
+use lib.Seq.{take-length}
+use native.Mathlib.Omega.{arith}
+use borrow.Author.Tests.{eqb-true, eqb-false}
+use Rattle.boards.specs.Lists.{anyOf}
+use Rattle.boards.specs.Boards.{has, with-board, tagged-in}
+use Rattle.boards.proofs.Basics.{decide, true-and, or-true, or-right, true-or, test-ext, row-fits}
+use Rattle.boards.proofs.Groups.{below-or, count, larger-count, has-with, has-below, has-ext, mask-below}
+use Rattle.volatile.specs.Volatile.{commit-of, acknowledge}
+use Rattle.volatile.specs.declared.Record.{Record}
+use Rattle.protocol.specs.Image.{Memory, Tags, Tentative, Put, rank, after, view}
+use Rattle.protocol.specs.Calls.{Request, first, refusals, placing, deciding, acknowledging, Plan, plan, Outcome}
+use Rattle.protocol.specs.Calls.{perform}
+use Rattle.protocol.specs.declared.Shape.{Shape}
+use Rattle.protocol.proofs.Copies.{length-placing}
+use Rattle.protocol.proofs.Counts.{length-deciding}
+use Rattle.protocol.proofs.Outcomes.{decisive}
+use Rattle.protocol.proofs.Plans.{given-inside, inside-indecisive, decided-after}
+use Rattle.costs.specs.Claims.{is-done, commits, of-commit}
+use Rattle.costs.proofs.Answers.{done-answer, cut-status, done-finished}
+use Rattle.costs.proofs.Counted.{count-same, count-with}
+use Rattle.costs.proofs.Kept.{tags-kept, placing-apart}
+use Rattle.costs.proofs.Opened.{called, deciding-cost, figure, Grouped, Open, Turn, gives, ends, stops}
+
+module _ (s : Shape) (g : ℕ) (m₀ : Memory) where
+  -- a call of board i, taken, that gives a context to the commit of g, open in `before`, which n have acknowledged
+  pub record Giving (n : ℕ) (image : List ℕ) (r : Record) (request : Request) (before : Record) (i : ℕ)
+      (context : List ℕ) : Type 0
+    where
+      pub before-it : Open s g m₀ image before n
+      pub passed : first (refusals image s (view s image) r request) ≡ 0
+      pub planned : plan s (view s image) r request ≡ acknowledging s (view s image) before i context
+      pub own : commits g request ≡ true
+      pub board : i < s .boards
+      pub full : length context ≡ s .context
+      pub member : has g i ≡ true
+      pub awaited : has (before .commit .acknowledged) i ≡ false
+
+  module _ (group : Grouped s g m₀) {n : ℕ} (image : List ℕ) (r : Record) (request : Request) (before : Record) (i : ℕ)
+      (context : List ℕ) (h : Giving n image r request before i context)
+    where
+      abbrev m : Memory
+      m = view s image
+
+      abbrev acks : ℕ
+      acks = with-board (before .commit .acknowledged) i
+
+      abbrev context-puts : List Put
+      context-puts = placing Tentative (i * s .context) context
+
+      one-more : count (s .boards) (has acks) ≡ suc n
+      one-more =
+          count-with (s .boards) (before .commit .acknowledged) i (group .few) (h .board) (h .awaited)
+          ∙ ap suc (h .before-it .given)
+
+      context-length : length context-puts ≡ s .context
+      context-length = length-placing Tentative (i * s .context) context ∙ h .full
+
+      context-tags : (b : ℕ) → tagged-in g (after context-puts m Tags b) ≡ tagged-in g (m₀ Tags b)
+      unfolding rank
+      context-tags b =
+          tags-kept m (placing-apart Tentative (i * s .context) context (omega arith)) b ∙ h .before-it .tags b
+
+      -- acknowledged boards are members
+      acks-inside : (j : ℕ) → has acks j ≡ true → has g j ≡ true
+      acks-inside j y =
+          let old = before .commit .acknowledged in
+          let l = has-below 16 acks j (mask-below 16 (λ j. has old j || eqb i j)) y in
+          ⊎-elim (h .before-it .inside j) (λ e. subst (λ c. has g c ≡ true) (eqb-true i j e) (h .member))
+          (or-true (has old j) (eqb i j) (sym (has-with old i j l) ∙ y))
+
+      -- if as many have acknowledged as there are members, all have
+      pub acks-less : eqb acks g ≡ false → suc n < count (s .boards) (has g)
+      acks-less e =
+          let most = larger-count (s .boards) (has acks) (has g) acks-inside in
+          ⊎-elim
+          (λ l. l)
+          (λ l.
+          let same : (j : ℕ) → j < 16 → has acks j ≡ has g j =
+          λ j k. test-ext _ _ (acks-inside j) (λ y. most .1 (omega (arith, one-more)) j (group .below j y) ∙ y) in
+          absurd (eqb-false acks g e (has-ext 16 acks g (mask-below 16 _) (group .small) same)))
+          (below-or (suc n) (count (s .boards) (has g)))
+
+      -- ---- by whether all have acknowledged
+
+      abbrev the-plan : Plan
+      the-plan = plan s m r request
+
+      plan-group : the-plan .group ≡ g
+      unfolding acknowledging commit-of acknowledge
+      plan-group = ap (λ p. p .group) (h .planned) ∙ h .before-it .members
+
+      some-stores : eqb acks g ≡ false → the-plan .stores ≡ context-puts
+      unfolding acknowledging commit-of acknowledge
+      some-stores e =
+          ap (λ p. p .stores) (h .planned)
+          ∙ rw (ap (eqb acks) (h .before-it .members) ∙ e) (append-nil context-puts)
+
+      some-next : eqb acks g ≡ false → the-plan .next ≡ acknowledge before i
+      unfolding acknowledging commit-of acknowledge
+      some-next e = ap (λ p. p .next) (h .planned) ∙ rw (ap (eqb acks) (h .before-it .members) ∙ e)
+
+      all-stores : eqb acks g ≡ true → the-plan .stores ≡ context-puts ++ deciding s (after context-puts m) g
+      unfolding acknowledging commit-of acknowledge
+      all-stores e =
+          ap (λ p. p .stores) (h .planned)
+          ∙ rw (ap (eqb acks) (h .before-it .members) ∙ e)
+          (ap (λ x. context-puts ++ deciding s (after context-puts m) x) (h .before-it .members))
+
+      all-length : eqb acks g ≡ true → length (the-plan .stores) ≡ (deciding-cost s g m₀)
+      all-length e =
+          let rest = deciding s (after context-puts m) g in
+          let same = count-same (s .blocks) _ (λ b. tagged-in g (m₀ Tags b)) (λ b l. context-tags b) in
+          ap length (all-stores e)
+          ∙ length-append context-puts rest
+          ∙ rw (context-length, length-deciding s (after context-puts m) g, same)
+
+      abbrev outcome : ℕ → Outcome
+      outcome k = perform image r request k
+
+      abbrev Turned : ℕ → Type 0
+      Turned k = Turn s g m₀ n (called image r request k) (outcome k .image) (outcome k .reply .next)
+
+      own-done : (k : ℕ) → outcome k .reply .answer .status ≡ 0 → of-commit g (called image r request k) ≡ true
+      own-done k e = true-and (h .own) (true-or _ (ap (λ a. eqb a 0) e))
+
+      -- some have not: the context alone is stored
+      module _ (e : eqb acks g ≡ false) (k : ℕ) (l : s .context ≤ k) where
+        some-long : length (the-plan .stores) ≤ k
+        some-long = rw (some-stores e, context-length) l
+
+        pub some-answer : outcome k .reply .answer
+            ≡ record { status = 0; decided = false; group = g; stores = s .context }
+        some-answer =
+            let quiet = inside-indecisive (given-inside s i context (h .board) (h .full)) in
+            done-answer image (h .before-it .shape) r request (h .passed) k some-long
+            ∙ rw (some-stores e, plan-group, context-length, quiet)
+
+        pub some-acks : outcome k .reply .next .commit .acknowledged ≡ acks
+        unfolding acknowledge
+        some-acks =
+            ap (λ x. x .commit .acknowledged)
+            (done-finished image (h .before-it .shape) r request (h .passed) k some-long .next ∙ some-next e)
+
+        pub some-open : Open s g m₀ (outcome k .image) (outcome k .reply .next) (suc n)
+        unfolding acknowledge
+        some-open =
+            let f = done-finished image (h .before-it .shape) r request (h .passed) k some-long in
+            record {
+              shape = f .sound .shape;
+              members = ap (λ x. x .commit .members) (f .next ∙ some-next e) ∙ h .before-it .members;
+              inside = λ j y. acks-inside j (sym (ap (λ x. has x j) some-acks) ∙ y);
+              given = ap (λ x. count (s .boards) (has x)) some-acks ∙ one-more;
+              less = acks-less e;
+              tags = λ b.
+                  ap (λ x. tagged-in g (x Tags b)) (f .memory ∙ ap (λ ps. after ps m) (some-stores e)) ∙ context-tags b;
+            }
+
+      -- all have: the commit is decided
+      pub all-count : eqb acks g ≡ true → suc n ≡ count (s .boards) (has g)
+      all-count e = sym one-more ∙ ap (λ x. count (s .boards) (has x)) (eqb-true acks g e)
+
+      pub all-answer : eqb acks g ≡ true → (k : ℕ) → (deciding-cost s g m₀) ≤ k
+          → outcome k .reply .answer ≡ record { status = 0; decided = true; group = g; stores = (deciding-cost s g m₀) }
+      all-answer e k l =
+          let ps = the-plan .stores in
+          let decided : anyOf decisive ps ≡ true =
+          ap (anyOf decisive) (sym (take-length ps))
+          ∙ rw (all-length e, all-stores e)
+          (decided-after s m i g context (deciding-cost s g m₀) (omega (arith, h .full)))
+          in
+          done-answer image (h .before-it .shape) r request (h .passed) k (rw (all-length e) l)
+          ∙ rw (decided, plan-group, all-length e)
+
+      given-cut : (k : ℕ) → k < length (the-plan .stores) → k + n * s .context < (figure s g m₀) → Turned k
+      given-cut k l less =
+          let cut = ap (λ x. eqb x 9) (cut-status image (h .before-it .shape) r request (h .passed) k l) in
+          stops (true-and (h .own) (or-right (is-done (called image r request k)) cut)) cut less
+
+      pub given-turn : (k : ℕ) → Turned k
+      given-turn k =
+          ⊎-elim
+          (λ (e : eqb acks g ≡ true).
+          let each = ap (λ x. x * s .context) (all-count e) in
+          ⊎-elim
+          (λ l. given-cut k (rw (all-length e) l) (omega (arith, each)))
+          (λ l. let a = all-answer e k l in ends (own-done k (ap (λ x. x .status) a)) a (all-count e))
+          (below-or k (deciding-cost s g m₀)))
+          (λ (e : eqb acks g ≡ false).
+          let fits = row-fits (s .context) (count (s .boards) (has g)) n (omega (arith, acks-less e)) in
+          ⊎-elim
+          (λ l. given-cut k (rw (some-stores e, context-length) l) (omega (arith, fits)))
+          (λ l. let a = some-answer e k l in gives (own-done k (ap (λ x. x .status) a)) a (some-open e k l))
+          (below-or k (s .context)))
+          (decide (eqb acks g))
