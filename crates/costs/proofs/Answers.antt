@@ -8,18 +8,17 @@ use lib.Dec.{eqb, ltb}
 use lib.ListN.{length, take, length-map}
 use lib.Seq.{take-all}
 use native.Mathlib.Omega.{arith}
-use borrow.Author.Tests.{eqb-true, ne-eqb, lt-ltb, le-ltb}
+use borrow.Author.Tests.{eqb-true, ne-eqb, le-ltb}
 use Rattle.boards.specs.Lists.{anyOf}
 use Rattle.boards.proofs.Basics.{decide, All}
 use Rattle.boards.proofs.Groups.{below-or}
-use Rattle.volatile.specs.Volatile.{off}
 use Rattle.volatile.specs.declared.Record.{Record}
 use Rattle.protocol.specs.Image.{raw, shape-of, view}
 use Rattle.protocol.specs.Calls.{Request, first, refusals, Plan, plan, executed, perform}
 use Rattle.protocol.specs.declared.Shape.{Shape}
 use Rattle.protocol.proofs.Bridge.{Sound, Valid}
 use Rattle.protocol.proofs.Outcomes.{decisive, made-decides, taken}
-use Rattle.protocol.proofs.Outcomes.{Finished, Result, turned-away, stopped, finished, result}
+use Rattle.protocol.proofs.Outcomes.{cut-status, Finished, Stopped, Result, turned-away, stopped, finished, result}
 use Rattle.protocol.proofs.Plans.{plan-valid}
 use Rattle.costs.specs.Forecasts.{refused, answered}
 
@@ -47,7 +46,7 @@ module _ {s : Shape} (image : List ℕ) (same : shape-of image ≡ s) (r : Recor
     abbrev the-plan : Plan
     the-plan = plan s (view s image) r request
 
-    pub taken-valid : Sound s image × All (Valid s) (the-plan .stores)
+    taken-valid : Sound s image × All (Valid s) (the-plan .stores)
     taken-valid =
         subst
         (λ t. first (refusals image t (view t image) r request) ≡ 0
@@ -71,19 +70,6 @@ module _ {s : Shape} (image : List ℕ) (same : shape-of image ≡ s) (r : Recor
         ap (λ o. o .reply .answer) (taken image same r request passed k)
         ∙ rw (long, decided, all, length-map ps (raw s))
 
-    pub cut-status : (k : ℕ) → k < length (the-plan .stores) → perform image r request k .reply .answer .status ≡ 9
-    unfolding executed
-    cut-status k l =
-        let ps = the-plan .stores in
-        let short : ltb k (length (map (raw s) ps)) ≡ true = rw (length-map ps (raw s)) (lt-ltb k (length ps) l) in
-        ap (λ o. o .reply .answer .status) (taken image same r request passed k) ∙ rw short
-
-    pub done-or-cut : (k : ℕ) → (perform image r request k .reply .answer .status ≡ 0)
-        ⊎ (perform image r request k .reply .answer .status ≡ 9)
-    done-or-cut k =
-        ⊎-elim (λ l. inr (cut-status k l)) (λ l. inl (ap (λ a. a .status) (done-answer k l)))
-        (below-or k (length (the-plan .stores)))
-
     ends-so : (k : ℕ) → Result s image r request k
     ends-so k = result (taken-valid .0) r request k (λ z. taken-valid .1)
 
@@ -96,10 +82,20 @@ module _ {s : Shape} (image : List ℕ) (same : shape-of image ≡ s) (r : Recor
         go (stopped e f) = let short = f .short in absurd (omega arith)
         go (finished e k f) = f
 
-    pub cut-next : (k : ℕ) → k < length (the-plan .stores) → perform image r request k .reply .next ≡ off
-    cut-next k l = go (ends-so k)
+    pub cut-stopped : (k : ℕ) → k < length (the-plan .stores)
+        → Stopped s (view s image) the-plan k (perform image r request k)
+    cut-stopped k l = go (ends-so k)
       where
-        go : Result s image r request k → perform image r request k .reply .next ≡ off
+        go : Result s image r request k → Stopped s (view s image) the-plan k (perform image r request k)
         go (turned-away v a b c e) = absurd (e passed)
-        go (stopped e f) = f .next
+        go (stopped e f) = f
         go (finished e k f) = absurd (omega arith)
+
+    pub cut-nine : (k : ℕ) → k < length (the-plan .stores) → perform image r request k .reply .answer .status ≡ 9
+    cut-nine k l = cut-status (perform image r request k) (cut-stopped k l .ended)
+
+    pub done-or-cut : (k : ℕ) → (perform image r request k .reply .answer .status ≡ 0)
+        ⊎ (perform image r request k .reply .answer .status ≡ 9)
+    done-or-cut k =
+        ⊎-elim (λ l. inr (cut-nine k l)) (λ l. inl (ap (λ a. a .status) (done-answer k l)))
+        (below-or k (length (the-plan .stores)))

@@ -32,17 +32,31 @@ those-more n p = length-those (suc n) p ∙ ap (λ c. c + cond (p n) 1 0) (sym (
 pub those-most : (n : ℕ) (p : ℕ → Bool) → length (those n p) ≤ n
 those-most n p = omega (arith, length-those n p, count-le n p)
 
-pub blocks-counted : (s : Shape) (m : Memory) (g : ℕ)
-    → blocks-cost s m g ≡ count (s .blocks) (λ b. tagged-in g (m Tags b)) * (s .size + 1)
-unfolding blocks-cost tagged-blocks
-blocks-counted s m g = ap (λ c. c * (s .size + 1)) (length-those (s .blocks) (λ b. tagged-in g (m Tags b)))
+-- ---- what a commit of the members g costs, with the tags of m
 
-pub commit-counted : (s : Shape) (m : Memory) (g : ℕ)
-    → let contexts = count (s .boards) (has g) * s .context in
-    commit-cost s m g ≡ contexts + (4 + count (s .blocks) (λ b. tagged-in g (m Tags b)) * (s .size + 1) + contexts)
-unfolding commit-cost boards-of
-commit-counted s m g =
-    omega (arith, blocks-counted s m g, ap (λ c. c * s .context) (length-those (s .boards) (has g)))
+module _ (s : Shape) (g : ℕ) (m : Memory) where
+  abbrev pub figure-blocks : ℕ
+  figure-blocks = count (s .blocks) (λ b. tagged-in g (m Tags b)) * (s .size + 1)
+
+  abbrev pub all-contexts : ℕ
+  all-contexts = count (s .boards) (has g) * s .context
+
+  -- the deciding call: its context and what follows; all calls
+  abbrev pub deciding-cost : ℕ
+  deciding-cost = s .context + (4 + figure-blocks + all-contexts)
+
+  abbrev pub figure : ℕ
+  figure = all-contexts + (4 + figure-blocks + all-contexts)
+
+  pub blocks-counted : blocks-cost s m g ≡ figure-blocks
+  unfolding blocks-cost tagged-blocks
+  blocks-counted = ap (λ c. c * (s .size + 1)) (length-those (s .blocks) (λ b. tagged-in g (m Tags b)))
+
+  pub commit-counted : commit-cost s m g ≡ figure
+  unfolding commit-cost boards-of
+  commit-counted = omega (arith, blocks-counted, ap (λ c. c * s .context) (length-those (s .boards) (has g)))
+
+-- ---- counts
 
 pub count-same : (n : ℕ) (p q : ℕ → Bool) → ((i : ℕ) → i < n → p i ≡ q i) → count n p ≡ count n q
 unfolding count

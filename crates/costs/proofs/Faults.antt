@@ -21,7 +21,7 @@ use Rattle.protocol.proofs.Outcomes.{turned-down}
 use Rattle.protocol.proofs.Plans.{inside-indecisive}
 use Rattle.costs.specs.Forecasts.{blocks-cost, fault-forecast}
 use Rattle.costs.specs.Claims.{answer-of, Fault-foretold, Fault-forecast-right}
-use Rattle.costs.proofs.Answers.{answered-refused, answered-taken, done-answer, cut-status}
+use Rattle.costs.proofs.Answers.{answered-refused, answered-taken, done-answer, cut-nine}
 use Rattle.costs.proofs.Counted.{blocks-counted}
 
 module _ (image : List ℕ) (r : Record) (i : ℕ) where
@@ -35,7 +35,7 @@ module _ (image : List ℕ) (r : Record) (i : ℕ) where
   g = fault-group (depends r) i
 
   restored : length (blocks-copied s m Recovery Current (tagged-in g)) ≡ blocks-cost s m g
-  restored = length-blocks s m Recovery Current (tagged-in g) ∙ sym (blocks-counted s m g)
+  restored = length-blocks s m Recovery Current (tagged-in g) ∙ sym (blocks-counted s g m)
 
   abbrev number : ℕ
   number = first (refusals image s m r (Fault i))
@@ -50,7 +50,7 @@ module _ (image : List ℕ) (r : Record) (i : ℕ) where
 
     cut : (k : ℕ) → k < blocks-cost s m g → answer-of image r (Fault i) k .status ≡ 9
     unfolding plan
-    cut k l = cut-status image refl r (Fault i) z k (rw restored l)
+    cut k l = cut-nine image refl r (Fault i) z k (rw restored l)
 
     taken : Fault-foretold image r i (fault-forecast image r i)
     unfolding fault-forecast refusals

@@ -1,6 +1,6 @@
 -- A context given to the commit of g, by a start or an acknowledgement: it stays open, is decided, or the call is cut.
 use Prim.Native.Nat.{ℕ, suc, _+_, _*_, _≤_, _<_}
-use mathlib.Core.Path.{_≡_, sym, _∙_, ap, subst}
+use mathlib.Core.Path.{_≡_, refl, sym, _∙_, ap, subst}
 use mathlib.Core.Bool.{true, false, _||_}
 use mathlib.Core.List.{List, _++_, append-nil}
 use mathlib.Core.Logic.{⊎-elim}
@@ -13,21 +13,22 @@ use Rattle.boards.specs.Lists.{anyOf}
 use Rattle.boards.specs.Boards.{has, with-board, tagged-in}
 use Rattle.boards.proofs.Basics.{decide, true-and, or-true, or-right, true-or, test-ext, row-fits}
 use Rattle.boards.proofs.Groups.{below-or, count, larger-count, has-with, has-below, has-ext, mask-below}
-use Rattle.volatile.specs.Volatile.{commit-of, acknowledge}
+use Rattle.volatile.specs.Volatile.{engaged, commit-of, acknowledge}
 use Rattle.volatile.specs.declared.Record.{Record}
 use Rattle.protocol.specs.Image.{Memory, Tags, Tentative, Put, rank, after, view}
-use Rattle.protocol.specs.Calls.{Request, first, refusals, placing, deciding, acknowledging, Plan, plan, Outcome}
-use Rattle.protocol.specs.Calls.{perform}
+use Rattle.protocol.specs.Calls.{Request, Acknowledge, first, refusals, placing, deciding, acknowledging, Plan, plan}
+use Rattle.protocol.specs.Calls.{Outcome, perform}
 use Rattle.protocol.specs.declared.Shape.{Shape}
 use Rattle.protocol.proofs.Copies.{length-placing}
 use Rattle.protocol.proofs.Counts.{length-deciding}
 use Rattle.protocol.proofs.Outcomes.{decisive}
 use Rattle.protocol.proofs.Plans.{given-inside, inside-indecisive, decided-after}
-use Rattle.costs.specs.Claims.{is-done, commits, of-commit}
-use Rattle.costs.proofs.Answers.{done-answer, cut-status, done-finished}
-use Rattle.costs.proofs.Counted.{count-same, count-with}
+use Rattle.protocol.proofs.Refusals.{begun, acknowledge-passed}
+use Rattle.costs.specs.Claims.{is-done, commit-request, of-commit}
+use Rattle.costs.proofs.Answers.{done-answer, done-finished, cut-nine, done-or-cut}
+use Rattle.costs.proofs.Counted.{deciding-cost, figure, count-same, count-with}
 use Rattle.costs.proofs.Kept.{tags-kept, placing-apart}
-use Rattle.costs.proofs.Opened.{called, deciding-cost, figure, Grouped, Open, Turn, gives, ends, stops}
+use Rattle.costs.proofs.Opened.{called, Grouped, Open, gives, ends, stops, Turned}
 
 module _ (s : Shape) (g : ℕ) (m₀ : Memory) where
   -- a call of board i, taken, that gives a context to the commit of g, open in `before`, which n have acknowledged
@@ -37,14 +38,14 @@ module _ (s : Shape) (g : ℕ) (m₀ : Memory) where
       pub before-it : Open s g m₀ image before n
       pub passed : first (refusals image s (view s image) r request) ≡ 0
       pub planned : plan s (view s image) r request ≡ acknowledging s (view s image) before i context
-      pub own : commits g request ≡ true
+      pub own : commit-request g request ≡ true
       pub board : i < s .boards
       pub full : length context ≡ s .context
       pub member : has g i ≡ true
       pub awaited : has (before .commit .acknowledged) i ≡ false
 
-  module _ (group : Grouped s g m₀) {n : ℕ} (image : List ℕ) (r : Record) (request : Request) (before : Record) (i : ℕ)
-      (context : List ℕ) (h : Giving n image r request before i context)
+  module _ (group : Grouped s g) {n : ℕ} {image : List ℕ} {r : Record} {request : Request} {before : Record} {i : ℕ}
+      {context : List ℕ} (h : Giving n image r request before i context)
     where
       abbrev m : Memory
       m = view s image
@@ -114,7 +115,7 @@ module _ (s : Shape) (g : ℕ) (m₀ : Memory) where
           ∙ rw (ap (eqb acks) (h .before-it .members) ∙ e)
           (ap (λ x. context-puts ++ deciding s (after context-puts m) x) (h .before-it .members))
 
-      all-length : eqb acks g ≡ true → length (the-plan .stores) ≡ (deciding-cost s g m₀)
+      all-length : eqb acks g ≡ true → length (the-plan .stores) ≡ deciding-cost s g m₀
       all-length e =
           let rest = deciding s (after context-puts m) g in
           let same = count-same (s .blocks) _ (λ b. tagged-in g (m₀ Tags b)) (λ b l. context-tags b) in
@@ -125,11 +126,14 @@ module _ (s : Shape) (g : ℕ) (m₀ : Memory) where
       abbrev outcome : ℕ → Outcome
       outcome k = perform image r request k
 
-      abbrev Turned : ℕ → Type 0
-      Turned k = Turn s g m₀ n (called image r request k) (outcome k .image) (outcome k .reply .next)
-
-      own-done : (k : ℕ) → outcome k .reply .answer .status ≡ 0 → of-commit g (called image r request k) ≡ true
-      own-done k e = true-and (h .own) (true-or _ (ap (λ a. eqb a 0) e))
+      -- the call is one of the commit's, since it is not refused
+      pub own-call : (k : ℕ) → of-commit g (called image r request k) ≡ true
+      own-call k =
+          true-and (h .own)
+          (⊎-elim
+          (λ e. true-or _ (ap (λ a. eqb a 0) e))
+          (λ e. or-right (is-done (called image r request k)) (ap (λ a. eqb a 9) e))
+          (done-or-cut image (h .before-it .shape) r request (h .passed) k))
 
       -- some have not: the context alone is stored
       module _ (e : eqb acks g ≡ false) (k : ℕ) (l : s .context ≤ k) where
@@ -167,8 +171,8 @@ module _ (s : Shape) (g : ℕ) (m₀ : Memory) where
       pub all-count : eqb acks g ≡ true → suc n ≡ count (s .boards) (has g)
       all-count e = sym one-more ∙ ap (λ x. count (s .boards) (has x)) (eqb-true acks g e)
 
-      pub all-answer : eqb acks g ≡ true → (k : ℕ) → (deciding-cost s g m₀) ≤ k
-          → outcome k .reply .answer ≡ record { status = 0; decided = true; group = g; stores = (deciding-cost s g m₀) }
+      pub all-answer : eqb acks g ≡ true → (k : ℕ) → deciding-cost s g m₀ ≤ k
+          → outcome k .reply .answer ≡ record { status = 0; decided = true; group = g; stores = deciding-cost s g m₀ }
       all-answer e k l =
           let ps = the-plan .stores in
           let decided : anyOf decisive ps ≡ true =
@@ -179,24 +183,44 @@ module _ (s : Shape) (g : ℕ) (m₀ : Memory) where
           done-answer image (h .before-it .shape) r request (h .passed) k (rw (all-length e) l)
           ∙ rw (decided, plan-group, all-length e)
 
-      given-cut : (k : ℕ) → k < length (the-plan .stores) → k + n * s .context < (figure s g m₀) → Turned k
+      given-cut : (k : ℕ) → k < length (the-plan .stores) → k + n * s .context < figure s g m₀
+          → Turned s g m₀ n image r request k
       given-cut k l less =
-          let cut = ap (λ x. eqb x 9) (cut-status image (h .before-it .shape) r request (h .passed) k l) in
-          stops (true-and (h .own) (or-right (is-done (called image r request k)) cut)) cut less
+          stops (own-call k) (ap (λ x. eqb x 9) (cut-nine image (h .before-it .shape) r request (h .passed) k l)) less
 
-      pub given-turn : (k : ℕ) → Turned k
+      pub given-turn : (k : ℕ) → Turned s g m₀ n image r request k
       given-turn k =
           ⊎-elim
           (λ (e : eqb acks g ≡ true).
           let each = ap (λ x. x * s .context) (all-count e) in
           ⊎-elim
           (λ l. given-cut k (rw (all-length e) l) (omega (arith, each)))
-          (λ l. let a = all-answer e k l in ends (own-done k (ap (λ x. x .status) a)) a (all-count e))
+          (λ l. ends (own-call k) (all-answer e k l) (all-count e))
           (below-or k (deciding-cost s g m₀)))
           (λ (e : eqb acks g ≡ false).
           let fits = row-fits (s .context) (count (s .boards) (has g)) n (omega (arith, acks-less e)) in
           ⊎-elim
           (λ l. given-cut k (rw (some-stores e, context-length) l) (omega (arith, fits)))
-          (λ l. let a = some-answer e k l in gives (own-done k (ap (λ x. x .status) a)) a (some-open e k l))
+          (λ l. gives (own-call k) (some-answer e k l) (some-open e k l))
           (below-or k (s .context)))
           (decide (eqb acks g))
+
+  -- an acknowledgement that is taken while the commit is open
+  pub acknowledge-giving : {n : ℕ} {image : List ℕ} {r : Record} (i : ℕ) (context : List ℕ) → Open s g m₀ image r n
+      → first (refusals image s (view s image) r (Acknowledge i context)) ≡ 0
+      → Giving n image r (Acknowledge i context) r i context
+  unfolding refusals plan commit-request engaged commit-of
+  acknowledge-giving {image = image} {r} i context w passed =
+      let b = begun image r i _ (w .shape) passed in
+      let p = acknowledge-passed s r i (length context) (b .1) in
+      let member = sym (ap (λ x. has x i) (w .members)) ∙ p .member in
+      record {
+        before-it = w;
+        passed = passed;
+        planned = refl;
+        own = member;
+        board = b .0 .board;
+        full = p .full;
+        member = member;
+        awaited = p .awaited;
+      }

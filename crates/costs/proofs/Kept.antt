@@ -1,4 +1,4 @@
--- While a commit is open, no call that is done moves a tag to or from one of its members, but for the deciding one.
+-- Stores that move no tag to or from a board of g: of a context, of a write that 13 lets pass, of a rollback of others.
 use Prim.Native.Nat.{ℕ, zero, suc, _^_, _<_}
 use mathlib.Core.Path.{_≡_, refl, sym, _∙_, ap}
 use mathlib.Core.Bool.{true, false, _&&_}

@@ -12,14 +12,14 @@ use Rattle.boards.proofs.Groups.{count}
 use Rattle.volatile.specs.declared.Record.{Record}
 use Rattle.volatile.proofs.Order.{orderly}
 use Rattle.protocol.specs.Image.{Memory, Tags, shape-of, view}
-use Rattle.protocol.specs.Calls.{Request, Read, Write, Start, Acknowledge, Fault, Power-up, Test, first}
-use Rattle.protocol.specs.Calls.{refusals, entry-tests, refusal-at}
-use Rattle.protocol.specs.Calls.{refused as refuse, perform}
+use Rattle.protocol.specs.Calls.{Request, Read, Write, Start, Acknowledge, Fault, Power-up, Test, first, refusals}
+use Rattle.protocol.specs.Calls.{entry-tests, refused as refuse, refusal-at, perform}
 use Rattle.protocol.specs.declared.Shape.{Shape}
 use Rattle.protocol.proofs.Outcomes.{turned-down}
 use Rattle.protocol.proofs.Demand1.{same-record}
 use Rattle.protocol.proofs.Refusals.{uncut, refusals-uncut, begun}
-use Rattle.costs.specs.Claims.{Answered-call, is-cut, commits, of-commit, drops}
+use Rattle.costs.specs.Claims.{Answered-call, is-cut, commit-request, of-commit, drops}
+use Rattle.costs.proofs.Counted.{deciding-cost, figure}
 
 -- a call with its answer
 abbrev pub called : List ℕ → Record → Request → ℕ → Answered-call
@@ -43,7 +43,7 @@ refused-call {s} image r request other same e k =
     let never = uncut tests (refusals-uncut image s (view s image) r request) in
     let neither = false-or (ne-eqb (first tests) 0 e) (ne-eqb (first tests) 9 never) in
     let told = ap (λ x. eqb (x .reply .answer .status) 0 || eqb (x .reply .answer .status) 9) o ∙ neither in
-    (λ g. and-false (commits g request) told, ap (λ x. x .image) o, ap (λ x. x .reply .next) o)
+    (λ g. and-false (commit-request g request) told, ap (λ x. x .image) o, ap (λ x. x .reply .next) o)
 
 off-stops : (image : List ℕ) (r : Record) (i : ℕ) (ts : List Test) → r .on ≡ false
     → first (entry-tests image r i ++ ts) ≢ 0
@@ -62,28 +62,15 @@ off-refused image r (Acknowledge i context) other down z = off-stops image r i _
 off-refused image r (Fault i) other down z = off-stops image r i [] down (rw append-nil z)
 off-refused image r Power-up other down z = other refl
 
+-- g is a group of boards, of which there are at most sixteen
+pub record Grouped (s : Shape) (g : ℕ) : Type 0 where
+  pub few : s .boards ≤ 16
+  pub small : g < 2 ^ 16
+  pub below : (j : ℕ) → has g j ≡ true → j < s .boards
+  pub some : g ≢ 0
+
 -- The members g of a commit in an image of the shape s, and the memory at its start.
 module _ (s : Shape) (g : ℕ) (m₀ : Memory) where
-  abbrev pub figure-blocks : ℕ
-  figure-blocks = count (s .blocks) (λ b. tagged-in g (m₀ Tags b)) * (s .size + 1)
-
-  abbrev pub all-contexts : ℕ
-  all-contexts = count (s .boards) (has g) * s .context
-
-  -- the deciding call: its context and what follows; the whole commit
-  abbrev pub deciding-cost : ℕ
-  deciding-cost = s .context + (4 + figure-blocks + all-contexts)
-
-  abbrev pub figure : ℕ
-  figure = all-contexts + (4 + figure-blocks + all-contexts)
-
-  -- g is a group of boards, of which there are at most sixteen
-  pub record Grouped : Type 0 where
-    pub few : s .boards ≤ 16
-    pub small : g < 2 ^ 16
-    pub below : (j : ℕ) → has g j ≡ true → j < s .boards
-    pub some : g ≢ 0
-
   -- n members have acknowledged the commit of g, not all, and the blocks tagged in g are those of its start
   pub record Open (image : List ℕ) (r : Record) (n : ℕ) : Type 0 where
     pub shape : shape-of image ≡ s
@@ -101,6 +88,11 @@ module _ (s : Shape) (g : ℕ) (m₀ : Memory) where
     gives : of-commit g x ≡ true → x .answer ≡ record { status = 0; decided = false; group = g; stores = s .context }
         → Open image r (suc n) → Turn n x image r
     ends : of-commit g x ≡ true
-        → x .answer ≡ record { status = 0; decided = true; group = g; stores = deciding-cost }
+        → x .answer ≡ record { status = 0; decided = true; group = g; stores = deciding-cost s g m₀ }
         → suc n ≡ count (s .boards) (has g) → Turn n x image r
-    stops : of-commit g x ≡ true → is-cut x ≡ true → x .k + n * s .context < figure → Turn n x image r
+    stops : of-commit g x ≡ true → is-cut x ≡ true → x .k + n * s .context < figure s g m₀ → Turn n x image r
+
+  -- how a call made in such a state ends
+  abbrev pub Turned : ℕ → List ℕ → Record → Request → ℕ → Type 0
+  Turned n image r request k =
+      let o = perform image r request k in Turn n (called image r request k) (o .image) (o .reply .next)

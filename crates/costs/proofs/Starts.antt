@@ -17,7 +17,7 @@ use Rattle.protocol.specs.declared.Shape.{Shape}
 use Rattle.protocol.proofs.Bridge.{limits, board-small}
 use Rattle.protocol.proofs.Refusals.{Entered, begun, first-passed}
 use Rattle.costs.specs.Forecasts.{commit-cost, commit-tests, commit-forecast}
-use Rattle.costs.specs.Claims.{commits}
+use Rattle.costs.specs.Claims.{commit-request}
 use Rattle.costs.proofs.Answers.{answered-status, answered-taken}
 use Rattle.costs.proofs.Counted.{count-none, count-some}
 use Rattle.costs.proofs.Opened.{Grouped}
@@ -30,76 +30,80 @@ first-tail [] us vs e = e
 first-tail (t ∷ ts) us vs e = ap (cond (t .holds) (t .number)) (first-tail ts us vs e)
 
 module _ (image : List ℕ) (r : Record) (i : ℕ) where
-  abbrev pub s : Shape
-  s = shape-of image
+  abbrev pub start-shape : Shape
+  start-shape = shape-of image
 
-  abbrev pub m : Memory
-  m = view s image
+  abbrev pub start-memory : Memory
+  start-memory = view start-shape image
 
-  abbrev pub g : ℕ
-  g = commit-group (depends r) i
+  abbrev pub start-group : ℕ
+  start-group = commit-group (depends r) i
 
-  abbrev pub number : ℕ
-  number = first (commit-tests image r i)
+  abbrev pub forecast-number : ℕ
+  forecast-number = first (commit-tests image r i)
 
-  pub status : commit-forecast image r i .status ≡ number
+  pub forecast-status : commit-forecast image r i .status ≡ forecast-number
   unfolding commit-forecast
-  status = answered-status number g (commit-cost s m g)
+  forecast-status = answered-status forecast-number start-group (commit-cost start-shape start-memory start-group)
 
-  pub figures : number ≡ 0 → commit-forecast image r i ≡ record { status = 0; group = g; stores = commit-cost s m g }
+  pub forecast-figures : forecast-number ≡ 0
+      → commit-forecast image r i
+      ≡ record { status = 0; group = start-group; stores = commit-cost start-shape start-memory start-group }
   unfolding commit-forecast
-  figures z = answered-taken g (commit-cost s m g) z
+  forecast-figures z = answered-taken start-group (commit-cost start-shape start-memory start-group) z
 
-  module _ (context : List ℕ) (full : length context ≡ s .context) where
-    pub start-number : refusal-at image r (Start i context) ≡ number
+  module _ (context : List ℕ) (full : length context ≡ start-shape .context) where
+    pub start-number : refusal-at image r (Start i context) ≡ forecast-number
     unfolding refusals start-tests
     start-number =
-        first-tail (entry-tests image r i) (start-tests s r (length context)) _
-        (first-passed 3 _ (ap not (eq-eqb (length context) (s .context) full)))
+        first-tail (entry-tests image r i) (start-tests start-shape r (length context)) _
+        (first-passed 3 _ (ap not (eq-eqb (length context) (start-shape .context) full)))
 
-    module _ (z : number ≡ 0) where
-      pub passed : refusal-at image r (Start i context) ≡ 0
-      passed = start-number ∙ z
+    module _ (z : forecast-number ≡ 0) where
+      pub start-taken : refusal-at image r (Start i context) ≡ 0
+      start-taken = start-number ∙ z
 
-      pub entry : Entered s image r i
+      pub start-entered : Entered start-shape image r i
       unfolding refusals
-      entry = begun image r i (start-tests s r (length context)) refl passed .0
+      start-entered = begun image r i (start-tests start-shape r (length context)) refl start-taken .0
 
       small-board : i < 16
-      small-board = board-small (limits s (entry .sound .allowed-shape)) (entry .board)
+      small-board = board-small (limits start-shape (start-entered .sound .allowed-shape)) (start-entered .board)
 
-      pub member : has g i ≡ true
-      member = commit-group-self (depends r) i small-board
+      pub start-member : has start-group i ≡ true
+      start-member = commit-group-self (depends r) i small-board
 
-      pub group : Grouped s g m
+      pub start-grouped : Grouped start-shape start-group
       unfolding depends
-      group =
-          let rows = rows-within (s .boards) (r .rows) (orderly (s .boards) r (entry .recorded) .rows) in
+      start-grouped =
+          let p = start-shape .boards in
+          let rows = rows-within p (r .rows) (orderly p r (start-entered .recorded) .rows) in
           record {
-            few = limits s (entry .sound .allowed-shape) .most-boards;
+            few = limits start-shape (start-entered .sound .allowed-shape) .most-boards;
             small = commit-group-small (depends r) i;
-            below = commit-group-within (depends r) i (entry .board) (λ a b x y e. rows .ends a b x y e .1);
-            some = λ none. clash member (ap (λ x. has x i) none ∙ has-zero i);
+            below = commit-group-within (depends r) i (start-entered .board) (λ a b x y e. rows .ends a b x y e .1);
+            some = λ none. clash start-member (ap (λ x. has x i) none ∙ has-zero i);
           }
 
-      pub giving : Giving s g m 0 image r (Start i context) (opened r i g) i context
-      unfolding plan opened commits
-      giving =
+      pub start-giving : Giving start-shape start-group start-memory 0 image r (Start i context)
+          (opened r i start-group) i context
+      unfolding plan opened commit-request
+      start-giving =
           record {
             before-it =
                 record {
                   shape = refl;
                   members = refl;
                   inside = λ j y. clash y (has-zero j);
-                  given = count-none (s .boards) (has 0) has-zero;
-                  less = count-some (s .boards) (has g) i (entry .board) member;
+                  given = count-none (start-shape .boards) (has 0) has-zero;
+                  less = count-some (start-shape .boards) (has start-group) i (start-entered .board) start-member;
                   tags = λ b. refl;
                 };
-            passed = passed;
+            passed = start-taken;
             planned = refl;
-            own = member;
-            board = entry .board;
+            own = start-member;
+            board = start-entered .board;
             full = full;
-            member = member;
+            member = start-member;
             awaited = has-zero i;
           }

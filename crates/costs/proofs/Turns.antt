@@ -13,40 +13,32 @@ use Rattle.boards.specs.Boards.{has, meets, tagged-in, fault-group}
 use Rattle.boards.proofs.Basics.{decide, clash, false-and}
 use Rattle.boards.proofs.Basics.{if-false, All, none, all-append}
 use Rattle.boards.proofs.Groups.{below-or, count}
-use Rattle.volatile.specs.Volatile.{off, depends, engaged, commit-of, left-open, clear}
+use Rattle.volatile.specs.Volatile.{off, depends, engaged, left-open, clear}
 use Rattle.volatile.specs.declared.Record.{Record}
 use Rattle.protocol.specs.Image.{Memory, Tags, Current, Put, rank, view}
 use Rattle.protocol.specs.Accesses.{touched}
 use Rattle.protocol.specs.Calls.{Request, Read, Write, Start, Acknowledge, Fault, Power-up, first}
 use Rattle.protocol.specs.Calls.{refusals}
-use Rattle.protocol.specs.Calls.{plan, perform}
+use Rattle.protocol.specs.Calls.{plan}
 use Rattle.protocol.specs.declared.Shape.{Shape}
 use Rattle.protocol.proofs.Refusals.{begun, write-passed, start-passed}
-use Rattle.protocol.proofs.Refusals.{acknowledge-passed}
 use Rattle.protocol.proofs.Steps.{commit-binds}
-use Rattle.costs.specs.Claims.{commits, drops}
-use Rattle.costs.specs.Claims.{drops-commit}
-use Rattle.costs.proofs.Answers.{done-answer, cut-status, done-finished, cut-next}
+use Rattle.costs.specs.Claims.{commit-request, drops, drops-commit}
+use Rattle.costs.proofs.Answers.{done-answer, cut-nine, done-finished, cut-stopped}
 use Rattle.costs.proofs.Kept.{Apart, tags-kept, placing-apart, tagging-apart, rollback-apart}
-use Rattle.costs.proofs.Opened.{called, no-power-up, refused-call}
-use Rattle.costs.proofs.Opened.{Grouped, Open, Turn, aside, breaks}
-use Rattle.costs.proofs.Given.{given-turn}
+use Rattle.costs.proofs.Opened.{called, no-power-up, refused-call, Grouped, Open, aside, breaks, Turned}
+use Rattle.costs.proofs.Given.{given-turn, acknowledge-giving}
 
 module _ (s : Shape) (g : ℕ) (m₀ : Memory) where
-  -- how the call ends, with what it leaves
-  abbrev Turned : ℕ → List ℕ → Record → Request → ℕ → Type 0
-  Turned n image r request k =
-      let o = perform image r request k in Turn s g m₀ n (called image r request k) (o .image) (o .reply .next)
-
   refused-turn : {n : ℕ} (image : List ℕ) (r : Record) (request : Request) → request ≢ Power-up
       → Open s g m₀ image r n → first (refusals image s (view s image) r request) ≢ 0 → (k : ℕ)
-      → Turned n image r request k
+      → Turned s g m₀ n image r request k
   refused-turn {n} image r request other w e k =
       let o = refused-call image r request other (w .shape) e k in
       aside (o .0 g) (subst₂ (λ a b. Open s g m₀ a b n) (sym (o .1)) (sym (o .2)) w)
 
   -- taken
-  module _ (group : Grouped s g m₀) {n : ℕ} (image : List ℕ) (r : Record) (w : Open s g m₀ image r n) where
+  module _ (group : Grouped s g) {n : ℕ} (image : List ℕ) (r : Record) (w : Open s g m₀ image r n) where
     abbrev memory : Memory
     memory = view s image
 
@@ -58,15 +50,15 @@ module _ (s : Shape) (g : ℕ) (m₀ : Memory) where
 
     -- a call of another kind: done, it leaves the commit open, and moves no tag to or from a member; cut, it leaves the
     -- record off
-    other-turn : (request : Request) → Passed request → (k : ℕ) → commits g request ≡ false
+    other-turn : (request : Request) → Passed request → (k : ℕ) → commit-request g request ≡ false
         → (length (stores-of request) ≤ k
         → (plan s memory r request .next .commit ≡ r .commit) × All (Apart g memory) (stores-of request))
-        → Turned n image r request k
+        → Turned s g m₀ n image r request k
     unfolding off
     other-turn request passed k others calm =
         ⊎-elim
-        (λ l. breaks (false-and _ others) (ap (λ x. eqb x 9) (cut-status image (w .shape) r request passed k l))
-        (ap (λ x. x .on) (cut-next image (w .shape) r request passed k l)))
+        (λ l. breaks (false-and _ others) (ap (λ x. eqb x 9) (cut-nine image (w .shape) r request passed k l))
+        (ap (λ x. x .on) (cut-stopped image (w .shape) r request passed k l .next)))
         (λ l.
         let f = done-finished image (w .shape) r request passed k l in
         let same = ap (λ x. x .commit) (f .next) ∙ calm l .0 in
@@ -81,13 +73,14 @@ module _ (s : Shape) (g : ℕ) (m₀ : Memory) where
         }))
         (below-or k (length (stores-of request)))
 
-    read-turn : (i a c room k : ℕ) → Passed (Read i a c room) → Turned n image r (Read i a c room) k
-    unfolding plan commits
+    read-turn : (i a c room k : ℕ) → Passed (Read i a c room) → Turned s g m₀ n image r (Read i a c room) k
+    unfolding plan commit-request
     read-turn i a c room k passed =
         other-turn (Read i a c room) passed k refl (λ l. (commit-binds _ (memory Tags) r i (touched s a c), none))
 
-    write-turn : (i a : ℕ) (bytes : List ℕ) (k : ℕ) → Passed (Write i a bytes) → Turned n image r (Write i a bytes) k
-    unfolding refusals plan commits engaged rank
+    write-turn : (i a : ℕ) (bytes : List ℕ) (k : ℕ) → Passed (Write i a bytes)
+        → Turned s g m₀ n image r (Write i a bytes) k
+    unfolding refusals plan commit-request engaged rank
     write-turn i a bytes k passed =
         let bs = touched s a (length bytes) in
         let p = write-passed s memory r i a (length bytes) (begun image r i _ (w .shape) passed .1) in
@@ -100,8 +93,8 @@ module _ (s : Shape) (g : ℕ) (m₀ : Memory) where
         ))
 
     fault-turn : (i k : ℕ) → Passed (Fault i) → drops-commit g (called image r (Fault i) k) ≡ false
-        → Turned n image r (Fault i) k
-    unfolding plan commits clear left-open drops
+        → Turned s g m₀ n image r (Fault i) k
+    unfolding plan commit-request clear left-open drops
     fault-turn i k passed calm =
         let h = fault-group (depends r) i in
         other-turn (Fault i) passed k refl
@@ -111,45 +104,27 @@ module _ (s : Shape) (g : ℕ) (m₀ : Memory) where
         let kept = if-false _ (r .commit) (ap (λ x. meets x (has h)) (w .members) ∙ out) in
         (kept, rollback-apart h (group .small) out s memory))
 
-    start-turn : (i : ℕ) (context : List ℕ) (k : ℕ) → Passed (Start i context) → Turned n image r (Start i context) k
+    start-turn : (i : ℕ) (context : List ℕ) (k : ℕ) → Passed (Start i context)
+        → Turned s g m₀ n image r (Start i context) k
     unfolding refusals engaged
     start-turn i context k passed =
         let p = start-passed s r (length context) (begun image r i _ (w .shape) passed .1) in
         absurd (group .some (sym (w .members) ∙ p .none-open))
 
-    acknowledge-turn : (i : ℕ) (context : List ℕ) (k : ℕ) → Passed (Acknowledge i context)
-        → Turned n image r (Acknowledge i context) k
-    unfolding refusals plan commits engaged commit-of
-    acknowledge-turn i context k passed =
-        let b = begun image r i _ (w .shape) passed in
-        let p = acknowledge-passed s r i (length context) (b .1) in
-        let member = sym (ap (λ x. has x i) (w .members)) ∙ p .member in
-        given-turn s g m₀ group image r (Acknowledge i context) r i context
-        (record {
-          before-it = w;
-          passed = passed;
-          planned = refl;
-          own = member;
-          board = b .0 .board;
-          full = p .full;
-          member = member;
-          awaited = p .awaited;
-        })
-        k
-
     taken-turn : (request : Request) (k : ℕ) → Passed request → drops-commit g (called image r request k) ≡ false
-        → Turned n image r request k
+        → Turned s g m₀ n image r request k
     unfolding drops
     taken-turn (Read i a c room) k passed calm = read-turn i a c room k passed
     taken-turn (Write i a bytes) k passed calm = write-turn i a bytes k passed
     taken-turn (Start i context) k passed calm = start-turn i context k passed
-    taken-turn (Acknowledge i context) k passed calm = acknowledge-turn i context k passed
+    taken-turn (Acknowledge i context) k passed calm =
+        given-turn s g m₀ group (acknowledge-giving s g m₀ i context w passed) k
     taken-turn (Fault i) k passed calm = fault-turn i k passed calm
     taken-turn Power-up k passed calm = clash refl calm
 
     -- a call that does not drop the commit
     pub turn : (request : Request) (k : ℕ) → drops-commit g (called image r request k) ≡ false
-        → Turned n image r request k
+        → Turned s g m₀ n image r request k
     turn request k calm =
         let number = first (refusals image s memory r request) in
         ⊎-elim

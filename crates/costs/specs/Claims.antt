@@ -57,19 +57,20 @@ is-done x = eqb (x .answer .status) 0
 abbrev pub is-cut : Answered-call → Bool
 is-cut x = eqb (x .answer .status) 9
 
--- a start or an acknowledgement by a board of g; one that is not refused is a call of the commit of g
-unfoldable pub commits : ℕ → Request → Bool
-commits g (Read i a n room) = false
-commits g (Write i a bytes) = false
-commits g (Start i context) = has g i
-commits g (Acknowledge i context) = has g i
-commits g (Fault i) = false
-commits g Power-up = false
+-- a start or an acknowledgement by a board of g; up to the decision those that are not refused are the calls of the
+-- commit of g
+unfoldable pub commit-request : ℕ → Request → Bool
+commit-request g (Read i a n room) = false
+commit-request g (Write i a bytes) = false
+commit-request g (Start i context) = has g i
+commit-request g (Acknowledge i context) = has g i
+commit-request g (Fault i) = false
+commit-request g Power-up = false
 
 abbrev pub of-commit : ℕ → Answered-call → Bool
-of-commit g x = commits g (x .request) && (is-done x || is-cut x)
+of-commit g x = commit-request g (x .request) && (is-done x || is-cut x)
 
--- the call that decides the commit of g, not another one; the calls up to that one, with it
+-- a call by a board of g that decides; the calls up to the first such one, with it
 abbrev pub ends-commit : ℕ → Answered-call → Bool
 ends-commit g x = of-commit g x && x .answer .decided
 
@@ -104,25 +105,30 @@ unfoldable pub total-cost : ℕ → List Answered-call → ℕ
 total-cost g [] = 0
 total-cost g (x ∷ xs) = cost g x + total-cost g xs
 
--- each call of the commit is allowed what the earlier ones left of the supply, or more
+-- each call of the commit is allowed what the earlier ones left of the supply, or more; other calls are not counted
 unfoldable pub supplied : ℕ → ℕ → List Answered-call → Bool
 supplied g left [] = true
 supplied g left (x ∷ xs) = (not (of-commit g x) || leb left (x .k)) && supplied g (left - cost g x) xs
 
 -- ---- a commit
 
--- What a forecast says of a start made next: refused, it is answered just so; if not, the start is done or cut.
+-- What a forecast says of a start made next with a context of K bytes: refused, it is answered just so; if not, the
+-- start is done or cut.
 pub record Start-foretold (f : Forecast) (a : Answer) : Type 0 where
   pub refused : f .status ≢ 0 → a ≡ foretold f
   pub taken : f .status ≡ 0 → (a .status ≡ 0) ⊎ (a .status ≡ 9)
 
--- so of a start with a context of K bytes, and of any other but for 3
+-- the number of a start whose context has not K bytes: 3, after 11, 12 and 1 and before 14
+abbrev pub without-context : Forecast → ℕ
+without-context f = cond (eqb (f .status) 0 || eqb (f .status) 14) 3 (f .status)
+
 abbrev pub Commit-refused-alike : Type 0
 Commit-refused-alike =
     (image : List ℕ) (r : Record) (i : ℕ) (context : List ℕ) (k : ℕ)
     → let f = commit-forecast image r i in
     let a = answer-of image r (Start i context) k in
-    ((a .status ≡ 3) ⊎ Start-foretold f a) × (length context ≡ shape-of image .context → Start-foretold f a)
+    (length context ≡ shape-of image .context → Start-foretold f a)
+    × (length context ≢ shape-of image .context → a .status ≡ without-context f)
 
 -- a start of board i made next and any calls after it: those up to the decision
 abbrev pub commit-run : List ℕ → Record → ℕ → List ℕ → ℕ → List Call → List Answered-call
@@ -145,8 +151,11 @@ Commit-forecast-right =
     × (anyOf (another-group (f .group)) run ≡ false)
     × (anyOf (ends-commit (f .group)) run ≡ true → total-cost (f .group) run ≡ f .stores)
 
--- With a supply of at least the figure, of which each call of the commit is allowed what the earlier ones left, none of
--- them is cut up to the decision, as long as no call drops the commit.
+-- a supply of at least the figure, which the calls of the commit share and no other call draws on
+abbrev pub Enough : Forecast → ℕ → List Answered-call → Type 0
+Enough f supply run = (f .stores ≤ supply) × (supplied (f .group) supply run ≡ true)
+
+-- With such a supply no call of the commit is cut up to the decision, as long as no call drops the commit.
 abbrev pub Supply-suffices : Type 0
 Supply-suffices =
     (image : List ℕ) (r : Record) (i : ℕ) (context : List ℕ) (k : ℕ) (calls : List Call) (supply : ℕ)
@@ -154,28 +163,27 @@ Supply-suffices =
     → let f = commit-forecast image r i in
     let run = commit-run image r i context k calls in
     f .status ≡ 0
-    → f .stores ≤ supply
-    → supplied (f .group) supply run ≡ true
+    → Enough f supply run
     → anyOf (drops-commit (f .group)) run ≡ false
     → anyOf (commit-cut (f .group)) run ≡ false
 
--- the start and one acknowledgement by each other member, ascending, each allowed k stores
-unfoldable pub commit-calls : Shape → ℕ → ℕ → (ℕ → List ℕ) → ℕ → List Call
+-- the start and one acknowledgement by each other member, ascending, each with its context and its allowance
+unfoldable pub commit-calls : Shape → ℕ → ℕ → (ℕ → List ℕ) → (ℕ → ℕ) → List Call
 commit-calls s g i context k =
-    record { request = Start i (context i); k = k }
-    ∷ map (λ j. record { request = Acknowledge j (context j); k = k })
+    record { request = Start i (context i); k = k i }
+    ∷ map (λ j. record { request = Acknowledge j (context j); k = k j })
     (those (s .boards) (λ j. has g j && not (eqb i j)))
 
--- The commit can be made: with contexts of K bytes and allowances of at least the figure these calls are all done,
--- they decide, and their stores add up to the figure.
+-- And such a supply completes the commit: with contexts of K bytes these calls are all done, they decide, and their
+-- stores add up to the figure.
 abbrev pub Commit-completes : Type 0
 Commit-completes =
-    (image : List ℕ) (r : Record) (i : ℕ) (context : ℕ → List ℕ) (k : ℕ)
+    (image : List ℕ) (r : Record) (i : ℕ) (context : ℕ → List ℕ) (k : ℕ → ℕ) (supply : ℕ)
     → ((j : ℕ) → length (context j) ≡ shape-of image .context)
     → let f = commit-forecast image r i in
     let run = played image r (commit-calls (shape-of image) (f .group) i context k) in
     f .status ≡ 0
-    → f .stores ≤ k
+    → Enough f supply run
     → (anyOf (λ x. not (is-done x)) run ≡ false)
     × (anyOf (ends-commit (f .group)) run ≡ true)
     × (total-cost (f .group) run ≡ f .stores)

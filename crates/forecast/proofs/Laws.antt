@@ -8,16 +8,15 @@ use mathlib.Core.List.{List, []}
 use mathlib.Core.Logic.{_≢_}
 use lib.ListN.{length}
 use borrow.Author.Tests.{eq-eqb, ne-eqb}
-use Rattle.boards.specs.Boards.{has, tagged-in, commit-group, fault-group}
-use Rattle.volatile.specs.Volatile.{depends, engaged}
+use Rattle.boards.specs.Boards.{has, tagged-in}
+use Rattle.volatile.specs.Volatile.{engaged}
 use Rattle.volatile.specs.declared.Record.{Record}
 use Rattle.protocol.specs.Image.{Memory, Tags, allowed, shape-of, view}
-use Rattle.protocol.specs.Calls.{first, entry-tests}
+use Rattle.protocol.specs.Calls.{Test, first, entry-tests}
 use Rattle.protocol.specs.declared.Shape.{Shape}
 use Rattle.protocol.proofs.Refusals.{first-held, first-passed, entry-goes-on}
 use Rattle.layout.proofs.Laws.{bounded}
-use Rattle.costs.specs.Forecasts.{those, boards-of, tagged-blocks, blocks-cost, commit-cost, refused}
-use Rattle.costs.specs.Forecasts.{commit-tests, commit-forecast, fault-forecast}
+use Rattle.costs.specs.Forecasts.{those, boards-of, tagged-blocks, blocks-cost, refused, answered, commit-tests}
 use Rattle.costs.specs.declared.Forecast.{Forecast}
 use Rattle.costs.proofs.Answers.{answered-refused, answered-taken}
 use Rattle.costs.proofs.Counted.{those-more, those-most}
@@ -28,7 +27,7 @@ pub one-more : (i : ℕ) (p : ℕ → Bool) {n next : ℕ} {yes : Bool} → n �
 one-more i p e t f =
     f ∙ ap₂ (λ n b. n + cond b 1 0) e t ∙ sym (those-more i p) ∙ ap (λ j. length (those j p)) (omega arith)
 
--- the largest figures
+-- bounds of the figures
 module _ (s : Shape) (fine : allowed s ≡ true) (g : ℕ) where
   pub most-contexts : length (boards-of s g) * s .context ≤ 1024
   unfolding boards-of
@@ -55,27 +54,13 @@ module _ (image : List ℕ) (r : Record) (i : ℕ) (entered : first (entry-tests
   unfolding first
   commit-passes e = entry-goes-on image r i _ entered ∙ first-passed 14 [] (ap not (eq-eqb (engaged r) 0 e))
 
--- a forecast is refused, or answers group and figure
-module _ (image : List ℕ) (r : Record) (i : ℕ) {f : Forecast} where
-  pub commit-refused : {n : ℕ} → (first (commit-tests image r i) ≡ n) × (n ≢ 0) → f ≡ refused n
-      → f ≡ commit-forecast image r i
-  unfolding commit-forecast
-  commit-refused (e, some) same = same ∙ sym (rw e (answered-refused _ _ some))
+-- a forecast with these tests is refused, or answers the group and its cost
+module _ (ts : List Test) {f : Forecast} where
+  pub refused-so : {n : ℕ} (g c : ℕ) → (first ts ≡ n) × (n ≢ 0) → f ≡ refused n → f ≡ answered (first ts) g c
+  refused-so g c (e, some) same = same ∙ sym (rw e (answered-refused g c some))
 
-  pub fault-refused : {n : ℕ} → (first (entry-tests image r i) ≡ n) × (n ≢ 0) → f ≡ refused n
-      → f ≡ fault-forecast image r i
-  unfolding fault-forecast
-  fault-refused (e, some) same = same ∙ sym (rw e (answered-refused _ _ some))
-
-  module _ {s : Shape} (shape : shape-of image ≡ s) {g stores : ℕ}
-      (same : f ≡ record { status = 0; group = g; stores = stores })
-    where
-      pub commit-taken : first (commit-tests image r i) ≡ 0 → g ≡ commit-group (depends r) i
-          → stores ≡ commit-cost s (view s image) g → f ≡ commit-forecast image r i
-      unfolding commit-forecast
-      commit-taken z e c = same ∙ rw (c, e, sym shape) (sym (answered-taken _ _ z))
-
-      pub fault-taken : first (entry-tests image r i) ≡ 0 → g ≡ fault-group (depends r) i
-          → stores ≡ blocks-cost s (view s image) g → f ≡ fault-forecast image r i
-      unfolding fault-forecast
-      fault-taken z e c = same ∙ rw (c, e, sym shape) (sym (answered-taken _ _ z))
+  pub taken-so : (cost : Shape → Memory → ℕ → ℕ) {s : Shape} (image : List ℕ) {g group stores : ℕ} → first ts ≡ 0
+      → shape-of image ≡ s → g ≡ group → stores ≡ cost s (view s image) g
+      → f ≡ record { status = 0; group = g; stores = stores }
+      → f ≡ answered (first ts) group (cost (shape-of image) (view (shape-of image) image) group)
+  taken-so cost image z shape e c same = same ∙ rw (c, e, sym shape) (sym (answered-taken _ _ z))

@@ -41,7 +41,7 @@ fn member_count(s: Shape, g: u16) -> usize
     n
 }
 
-// How many blocks are tagged by a board of the group.
+// How many blocks are tagged by a board of the group. Public, since document 02's Req 05 counts the same blocks.
 pub fn tagged_count(image: &[u8], s: Shape, g: u16) -> usize
     requires { ⌜ (allowed s ≡ true) × (length (now image) ≡ total s) ⌝ }
     ensures { λ r. ⌜ r ≡ length (tagged-blocks s (view s (now (image .entry))) g) ⌝ }
@@ -85,6 +85,7 @@ fn refused(n: u8) -> Forecast
     }
 }
 
+// Refused 11, 12, 1, 14: as a start with a context of K bytes.
 pub fn commit_forecast(image: &[u8], state: Record, board: usize) -> Forecast
     ensures { λ r. ⌜ r ≡ commit-forecast (now (image .entry)) state board ⌝ }
 {
@@ -106,6 +107,7 @@ pub fn commit_forecast(image: &[u8], state: Record, board: usize) -> Forecast
     }
 }
 
+// Refused 11, 12, 1: as a fault.
 pub fn fault_forecast(image: &[u8], state: Record, board: usize) -> Forecast
     ensures { λ r. ⌜ r ≡ fault-forecast (now (image .entry)) state board ⌝ }
 {

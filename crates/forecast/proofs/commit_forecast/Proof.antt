@@ -4,18 +4,20 @@ use native.Mathlib.Omega.{arith}
 use denote.Ref.{now}
 use Rattle.volatile.specs.Volatile.{depends}
 use Rattle.protocol.specs.Calls.{first, entry-tests}
+use Rattle.costs.specs.Forecasts.{commit-cost, commit-tests, commit-forecast}
 use Rattle.entry.specs.Tested.{Entry-passed, entry-says}
 use Rattle.entry.proofs.Laws.{small, if-taken, refused-first}
-use Rattle.forecast.proofs.Laws.{commit-open, commit-passes, commit-refused, commit-taken}
+use Rattle.forecast.proofs.Laws.{commit-open, commit-passes, refused-so, taken-so}
 use Rattle.forecast.proofs.commit_forecast.Statement.{statement}
 use Rattle.forecast.proofs.commit_forecast.Tie as tie
 
 returns : tie.Need-returns
+unfolding commit-forecast
 returns c =
     let asked = c .before .before in
     let entered = asked .before .before in
     let args = entered .before .before .args in
-    commit-refused (now (args .image)) (args .state) (args .board)
+    refused-so (commit-tests (now (args .image)) (args .state) (args .board)) _ _
     (refused-first (entry-tests (now (args .image)) (args .state) (args .board)) _ (entered .enter .ensures)
     (ap entry-says (asked .enum-told .given .1)) (c .before .number .ensures))
     (c .refused .ensures)
@@ -28,13 +30,15 @@ known : (c : tie.After-entry) →
 known c = if-taken (c .before .before .enter .ensures) (c .entry .given .1)
 
 returns-2 : tie.Need-returns-2
+unfolding commit-forecast
 returns-2 c =
     let asked = c .before .before in
     let entered = asked .before .before in
     let args = entered .before .before .before .before .args in
     let number = commit-open (now (args .image)) (args .state) (args .board) (known entered .0)
     (λ z. omega (arith, c .before .if1 .taken, asked .engaged .ensures, z)) in
-    commit-refused (now (args .image)) (args .state) (args .board) (number, λ z. omega arith) (c .refused2 .ensures)
+    refused-so (commit-tests (now (args .image)) (args .state) (args .board)) _ _ (number, λ z. omega arith)
+    (c .refused2 .ensures)
 
 cast-commit-closure : tie.Need-cast-commit-closure
 cast-commit-closure c = omega (arith, small (known (c .before .before .before .before) .1))
@@ -48,7 +52,7 @@ commit-cost-requires c κs =
     (shaped .allowed-shape, shaped .long)
 
 returns-3 : tie.Need-returns-3
-unfolding depends
+unfolding depends commit-forecast
 returns-3 c =
     let found = c .before in
     let asked = found .before .before .before in
@@ -57,8 +61,8 @@ returns-3 c =
     let passed = known entered in
     let none = commit-passes (now (args .image)) (args .state) (args .board) (passed .0)
     (omega (arith, found .before .before .if1 .left, asked .engaged .ensures)) in
-    commit-taken (now (args .image)) (args .state) (args .board) (passed .1 .shaped .shape) refl none
-    (found .commit-closure .ensures .members) (c .commit-cost .ensures)
+    taken-so (commit-tests (now (args .image)) (args .state) (args .board)) commit-cost (now (args .image)) none
+    (passed .1 .shaped .shape) (found .commit-closure .ensures .members) (c .commit-cost .ensures) refl
 
 pub commit-forecast-spec : {M : Type 1} → statement M
 commit-forecast-spec =

@@ -4,18 +4,20 @@ use native.Mathlib.Omega.{arith}
 use denote.Ref.{now}
 use Rattle.volatile.specs.Volatile.{depends}
 use Rattle.protocol.specs.Calls.{first, entry-tests}
+use Rattle.costs.specs.Forecasts.{blocks-cost, fault-forecast}
 use Rattle.entry.specs.Tested.{Entry-passed, entry-says}
 use Rattle.entry.proofs.Laws.{small, if-taken, if-refused}
-use Rattle.forecast.proofs.Laws.{fault-refused, fault-taken}
+use Rattle.forecast.proofs.Laws.{refused-so, taken-so}
 use Rattle.forecast.proofs.fault_forecast.Statement.{statement}
 use Rattle.forecast.proofs.fault_forecast.Tie as tie
 
 returns : tie.Need-returns
+unfolding fault-forecast
 returns c =
     let asked = c .before .before in
     let entered = asked .before .before in
     let args = entered .before .before .args in
-    fault-refused (now (args .image)) (args .state) (args .board)
+    refused-so (entry-tests (now (args .image)) (args .state) (args .board)) _ _
     (if-refused (entered .enter .ensures) (ap entry-says (asked .enum-told .given .1)) (c .before .number .ensures))
     (c .refused .ensures)
 
@@ -38,14 +40,14 @@ blocks-cost-requires c κs =
     (shaped .allowed-shape, shaped .long)
 
 returns-2 : tie.Need-returns-2
-unfolding depends
+unfolding depends fault-forecast
 returns-2 c =
     let found = c .before in
     let entered = found .before .before .before in
     let args = entered .before .before .before .before .args in
     let passed = known entered in
-    fault-taken (now (args .image)) (args .state) (args .board) (passed .1 .shaped .shape) refl (passed .0)
-    (found .fault-closure .ensures .members) (c .blocks-cost .ensures)
+    taken-so (entry-tests (now (args .image)) (args .state) (args .board)) blocks-cost (now (args .image)) (passed .0)
+    (passed .1 .shaped .shape) (found .fault-closure .ensures .members) (c .blocks-cost .ensures) refl
 
 pub fault-forecast-spec : {M : Type 1} → statement M
 fault-forecast-spec =
