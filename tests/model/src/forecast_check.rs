@@ -202,6 +202,19 @@ impl Check<'_> {
             return Ok(());
         }
         let shape = shape.ok_or("taken without a header")?;
+        self.commit_allowances(state, shape, board, told)?;
+        self.note_commit(state, shape, told);
+        Ok(())
+    }
+
+    /// The whole commit, with the figure as allowance, more, and less.
+    fn commit_allowances(
+        &mut self,
+        state: &State,
+        shape: &Shape,
+        board: usize,
+        told: Forecast,
+    ) -> Result<(), String> {
         let more = told.stores + self.random.within(1, 200) as u32;
         for allowance in [told.stores, more] {
             let made = self.whole_commit(state, shape, board, told, allowance)?;
@@ -212,11 +225,17 @@ impl Check<'_> {
         agree("commit, one store less", made, Made::Cut(one_less, true))?;
         let less = self.random.below(told.stores as usize) as u32;
         let made = self.whole_commit(state, shape, board, told, less)?;
-        let decided = made == Made::Cut(less, true);
+        // The contexts of all members, then bytes 10, 11 and 9.
+        let decided = less >= told.group.count_ones() * shape.context as u32 + 3;
         agree("commit, fewer stores", made, Made::Cut(less, decided))?;
         let reached = &mut *self.reached;
         reached.note_if(decided, "commit: cut after the deciding store");
         reached.note_if(!decided, "commit: cut before the deciding store");
+        Ok(())
+    }
+
+    fn note_commit(&mut self, state: &State, shape: &Shape, told: Forecast) {
+        let reached = &mut *self.reached;
         let members = told.group.count_ones() as usize;
         let contexts = 2 * members * shape.context;
         let saved = told.stores as usize - 4 - contexts;
@@ -230,7 +249,6 @@ impl Check<'_> {
         reached.note_if(shape.context == 0, "commit: K is 0");
         reached.note_if(outside, "commit: a block of a board outside");
         reached.note_if(tag_above(state, shape), "commit: a tag above P");
-        Ok(())
     }
 
     /// The start and the other members' acknowledgements in any order, each
@@ -244,11 +262,7 @@ impl Check<'_> {
         allowance: u32,
     ) -> Result<Made, String> {
         let mut state = state.clone();
-        let mut order: Vec<usize> = (0..16)
-            .filter(|i| *i != board && told.group >> i & 1 == 1)
-            .collect();
-        self.random.shuffle(&mut order);
-        order.insert(0, board);
+        let order = self.calling_order(board, told.group);
         let mut left = allowance;
         for (i, member) in order.iter().enumerate() {
             let call = if i == 0 {
@@ -277,19 +291,22 @@ impl Check<'_> {
         Ok(Made::Done(allowance - left))
     }
 
+    /// The board, then the group's others in any order.
+    fn calling_order(&mut self, board: usize, group: u16) -> Vec<usize> {
+        let mut order: Vec<usize> = (0..16)
+            .filter(|i| *i != board && group >> i & 1 == 1)
+            .collect();
+        self.random.shuffle(&mut order);
+        order.insert(0, board);
+        order
+    }
+
     /// A call that the claim allows: no fault with a member in its group, no
     /// power-up, nothing cut, no acknowledgement that counts.
     fn between(&mut self, state: &mut State, shape: &Shape) {
         let before = state.clone();
         let record = state.record;
-        let outsiders: Vec<usize> = (0..shape.boards)
-            .filter(|i| record.members >> i & 1 == 0)
-            .collect();
-        let board = if outsiders.is_empty() || self.random.per_mille(200) {
-            self.random.within(0, shape.boards)
-        } else {
-            self.random.pick(&outsiders)
-        };
+        let board = self.mostly_outsider(record.members, shape);
         let size = shape.size();
         let any = self.random.within(1, size);
         let n = self.random.pick(&[1, any, size, size]);
@@ -321,6 +338,19 @@ impl Check<'_> {
             "between: a fault with a block",
         );
         reached.note_if(answer.code != DONE, "between: refused");
+    }
+
+    /// A board that is no member; sometimes, or where all are members, any
+    /// board from 0 to P.
+    fn mostly_outsider(&mut self, members: u16, shape: &Shape) -> usize {
+        let outsiders: Vec<usize> = (0..shape.boards)
+            .filter(|i| members >> i & 1 == 0)
+            .collect();
+        if outsiders.is_empty() || self.random.per_mille(200) {
+            self.random.within(0, shape.boards)
+        } else {
+            self.random.pick(&outsiders)
+        }
     }
 
     fn start(&mut self, state: &State, board: usize, length: usize, k: u32) -> Answer {
