@@ -122,6 +122,7 @@ pub record Start-foretold (f : Forecast) (a : Answer) : Type 0 where
 abbrev pub without-context : Forecast → ℕ
 without-context f = cond (eqb (f .status) 0 || eqb (f .status) 14) 3 (f .status)
 
+-- A start made next is answered so; with a context of another length it is refused by that number.
 abbrev pub Commit-refused-alike : Type 0
 Commit-refused-alike =
     (image : List ℕ) (r : Record) (i : ℕ) (context : List ℕ) (k : ℕ)

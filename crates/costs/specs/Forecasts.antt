@@ -17,7 +17,7 @@ use Rattle.costs.specs.declared.Forecast.{Forecast}
 unfoldable pub those : ℕ → (ℕ → Bool) → List ℕ
 those n p = for n (λ i. cond (p i) (i ∷ []) [])
 
--- the boards of a group, and the blocks that they tagged: so many that document 01 speaks of g members and m blocks
+-- the boards of a group, and the blocks that they tagged; document 01 calls the numbers of them g and m
 unfoldable pub boards-of : Shape → ℕ → List ℕ
 boards-of s g = those (s .boards) (has g)
 
