@@ -19,6 +19,7 @@ use Rattle.protocol.specs.Ledger.{Verdict, refused, done, cut, Ledger, u
 use Rattle.protocol.specs.Claim.{verdict}
 use Rattle.protocol.specs.Demand1.{ends-as, Proper, refusing, storing, Demand-1}
 use Rattle.protocol.specs.declared.Shape.{Shape}
+use Rattle.protocol.specs.declared.Requester.{Requester}
 use Rattle.volatile.specs.declared.Record.{Record}
 use Rattle.boards.proofs.Basics.{decide, not-false, All, none, also, all-append, all-mapped, all-span, anyOf-false}
 use Rattle.protocol.proofs.Refusals.{uncut, refusals-uncut, none-hold}
@@ -129,8 +130,8 @@ format-proper s image r =
 -- a refused request hands its record back, but for a power-up
 pub same-record : (r : Record) (request : Request) → request ≢ Power-up → record-refused r request ≡ r
 unfolding record-refused
-same-record r (Read i a n room) other = refl
-same-record r (Write i a bytes) other = refl
+same-record r (Read who a n room) other = refl
+same-record r (Write who a bytes) other = refl
 same-record r (Start i context) other = refl
 same-record r (Acknowledge i context) other = refl
 same-record r (Fault i) other = refl
@@ -151,21 +152,21 @@ demand-1 =
 -- ---- a read, and its buffer
 
 -- a read leaves the image as it was
-pub read-stores-nothing : (image : List ℕ) (r : Record) (i a n room k : ℕ)
-    → perform image r (Read i a n room) k .image ≡ image
+pub read-stores-nothing : (image : List ℕ) (r : Record) (who : Requester) (a n room k : ℕ)
+    → perform image r (Read who a n room) k .image ≡ image
 unfolding plan executed made refuse
-read-stores-nothing image r i a n room k =
+read-stores-nothing image r who a n room k =
     ⊎-elim
-    (λ (e : eqb (refusal-at image r (Read i a n room)) 0 ≡ true).
-    ap (λ o. o .image) (taken image refl r (Read i a n room) (eqb-true _ 0 e) k) ∙ ap (λ l. made l image) (take-nil k))
-    (λ (e : eqb (refusal-at image r (Read i a n room)) 0 ≡ false).
-    ap (λ o. o .image) (turned-down image refl r (Read i a n room) (eqb-false _ 0 e) k))
-    (decide (eqb (refusal-at image r (Read i a n room)) 0))
+    (λ (e : eqb (refusal-at image r (Read who a n room)) 0 ≡ true).
+    ap (λ o. o .image) (taken image refl r (Read who a n room) (eqb-true _ 0 e) k) ∙ ap (λ l. made l image) (take-nil k))
+    (λ (e : eqb (refusal-at image r (Read who a n room)) 0 ≡ false).
+    ap (λ o. o .image) (turned-down image refl r (Read who a n room) (eqb-false _ 0 e) k))
+    (decide (eqb (refusal-at image r (Read who a n room)) 0))
 
 -- the ledger does not look at the length of its answer buffer
-pub room-unseen : (s : Shape) (i a n room other k : ℕ) (v : Verdict) (l : Ledger)
-    → update s (Read i a n room) k v l ≡ update s (Read i a n other) k v l
+pub room-unseen : (s : Shape) (who : Requester) (a n room other k : ℕ) (v : Verdict) (l : Ledger)
+    → update s (Read who a n room) k v l ≡ update s (Read who a n other) k v l
 unfolding update effect commit-effect
-room-unseen s i a n room other k refused l = refl
-room-unseen s i a n room other k done l = refl
-room-unseen s i a n room other k cut l = refl
+room-unseen s who a n room other k refused l = refl
+room-unseen s who a n room other k done l = refl
+room-unseen s who a n room other k cut l = refl

@@ -19,7 +19,7 @@ use Rattle.protocol.specs.Calls.{Request, Read, Write, Start, Acknowledg
 use Rattle.protocol.specs.Calls.{entry-tests, read-tests, write-tests, start-tests, acknowledge-tests}
 use Rattle.protocol.specs.Calls.{power-tests}
 use Rattle.protocol.specs.Calls.{acknowledging, bad-tags, bad-decision, plan, record-refused, blocks-copied}
-use Rattle.protocol.specs.Accesses.{touched, read-binding, write-binding}
+use Rattle.protocol.specs.Accesses.{board-of, touched, read-binding, write-binding}
 use Rattle.protocol.specs.declared.Binding.{Binding}
 use Rattle.protocol.specs.Ledger.{refused, done, undone, Note, Open-commit, Ledger, writer}
 use Rattle.protocol.specs.Ledger.{source, sources-of, decides-now, noted, started, cleared, all-undone}
@@ -27,6 +27,7 @@ use Rattle.protocol.specs.Ledger.{commit-effect, effect, update}
 use Rattle.protocol.specs.Claim.{verdict, System, waits, answer, next, bytes-from, newest}
 use Rattle.protocol.specs.Claim.{Commits, Answers, end}
 use Rattle.protocol.specs.declared.Shape.{Shape}
+use Rattle.protocol.specs.declared.Requester.{Requester}
 use Rattle.volatile.specs.declared.Record.{Record}
 use Rattle.volatile.specs.declared.Commit.{Commit}
 use Rattle.boards.proofs.Basics.{or-false, none-any, All, none, also}
@@ -160,12 +161,13 @@ module _ {s : Shape} {w : System} (h : Sound s (w .image)) (q : w .waiting ≡ f
   few-links = bounded-more (on .consistent .bounded) (bound .most-boards)
 
   -- what a read that is not refused has passed
-  read-ok : (i a n room : ℕ) → first (refusals (w .image) s m (w .state) (Read i a n room)) ≡ 0
-      → Access-ok s read-binding i a n (w .ledger) × All (λ b. b < s .blocks) (touched s a n) × Ranged s a n
+  read-ok : (who : Requester) (a n room : ℕ) → first (refusals (w .image) s m (w .state) (Read who a n room)) ≡ 0
+      → Access-ok s read-binding (board-of s who) a n (w .ledger) × All (λ b. b < s .blocks) (touched s a n) × Ranged s a n
   unfolding refusals engaged
-  read-ok i a n room e =
-      let both = begun (w .image) (w .state) i (read-tests s m (w .state) i a n room) (h .shape) e in
-      let p = read-passed s m (w .state) i a n room (both .1) in
+  read-ok who a n room e =
+      let i = board-of s who in
+      let both = begun (w .image) (w .state) i (read-tests s m (w .state) who a n room) (h .shape) e in
+      let p = read-passed s m (w .state) who a n room (both .1) in
       let r = ranged s a n (p .range) in (
         record {
           positive = positive;
@@ -188,32 +190,36 @@ module _ {s : Shape} {w : System} (h : Sound s (w .image)) (q : w .waiting ≡ f
       (on .current a (omega arith) ∙ sym (live-byte (w .ledger .notes) a) ∙ sym (byte-older n (w .ledger .notes) a a))
       (read-bytes n (suc a) k (omega arith))
 
-  read-ends : (i a n room k : ℕ) → Result s (w .image) (w .state) (Read i a n room) k
-      → Answers s w (Read i a n room) k × Invariant s (next s w (Read i a n room) k)
+  read-ends : (who : Requester) (a n room k : ℕ) → Result s (w .image) (w .state) (Read who a n room) k
+      → Answers s w (Read who a n room) k × Invariant s (next s w (Read who a n room) k)
   unfolding answer record-refused plan next update effect noted newest sources-of after waits
-  read-ends i a n room k (turned-away v p r u e) =
-      (λ d. not-done v d, refused-on s w (Read i a n room) k (up h q on) v p r)
-  read-ends i a n room k (stopped e f) = absurd (not-suc-le-zero (f .short))
-  read-ends i a n room k (finished e l f) =
-      let ok = read-ok i a n room e in
+  read-ends who a n room k (turned-away v p r u e) =
+      (λ d. not-done v d, refused-on s w (Read who a n room) k (up h q on) v p r)
+  read-ends who a n room k (stopped e f) = absurd (not-suc-le-zero (f .short))
+  read-ends who a n room k (finished e l f) =
+      let ok = read-ok who a n room e in
       let r = ok .2 in (
         λ d. f .bytes ∙ rw d (read-bytes _ a n (r .within)),
-        finished-on s w (Read i a n room) k f q (read-done on (bound .most-boards) (ok .0) (ok .1)),
+        finished-on s w (Read who a n room) k f q (read-done on (bound .most-boards) (ok .0) (ok .1)),
       )
 
-  read-step : (i a n room k : ℕ) → Answers s w (Read i a n room) k × Invariant s (next s w (Read i a n room) k)
+  read-step : (who : Requester) (a n room k : ℕ)
+      → Answers s w (Read who a n room) k × Invariant s (next s w (Read who a n room) k)
   unfolding plan
-  read-step i a n room k = read-ends i a n room k (result h (w .state) (Read i a n room) k (λ e. none))
+  read-step who a n room k = read-ends who a n room k (result h (w .state) (Read who a n room) k (λ e. none))
 
   -- ---- a write
 
-  pub write-ok : (i a : ℕ) (bytes : List ℕ) → first (refusals (w .image) s m (w .state) (Write i a bytes)) ≡ 0
-      → Access-ok s (write-binding s a (length bytes)) i a (length bytes) (w .ledger) × Ranged s a (length bytes)
+  pub write-ok : (who : Requester) (a : ℕ) (bytes : List ℕ)
+      → first (refusals (w .image) s m (w .state) (Write who a bytes)) ≡ 0
+      → Access-ok s (write-binding s a (length bytes)) (board-of s who) a (length bytes) (w .ledger)
+      × Ranged s a (length bytes)
   unfolding refusals engaged
-  write-ok i a bytes e =
+  write-ok who a bytes e =
+      let i = board-of s who in
       let n = length bytes in
-      let both = begun (w .image) (w .state) i (write-tests s m (w .state) i a n) (h .shape) e in
-      let p = write-passed s m (w .state) i a n (both .1) in
+      let both = begun (w .image) (w .state) i (write-tests s m (w .state) who a n) (h .shape) e in
+      let p = write-passed s m (w .state) who a n (both .1) in
       let r = ranged s a n (p .range) in
       let tags = tags-written on (touched-below s a n positive r) in (
         record {
@@ -229,26 +235,27 @@ module _ {s : Shape} {w : System} (h : Sound s (w .image)) (q : w .waiting ≡ f
         r,
       )
 
-  write-ends : (i a : ℕ) (bytes : List ℕ) (k : ℕ) → Result s (w .image) (w .state) (Write i a bytes) k
-      → Invariant s (next s w (Write i a bytes) k)
+  write-ends : (who : Requester) (a : ℕ) (bytes : List ℕ) (k : ℕ)
+      → Result s (w .image) (w .state) (Write who a bytes) k
+      → Invariant s (next s w (Write who a bytes) k)
   unfolding answer record-refused plan commit-effect effect waits
-  write-ends i a bytes k (turned-away v p r u e) = refused-on s w (Write i a bytes) k (up h q on) v p r
-  write-ends i a bytes k (stopped e f) =
-      let ok = write-ok i a bytes e in
-      let calm = write-through i a bytes positive (ok .0 .few) (ok .0 .board) (on-idle positive on) .prefix k in
-      stopped-off s w (Write i a bytes) k f
+  write-ends who a bytes k (turned-away v p r u e) = refused-on s w (Write who a bytes) k (up h q on) v p r
+  write-ends who a bytes k (stopped e f) =
+      let ok = write-ok who a bytes e in
+      let calm = write-through (board-of s who) a bytes positive (ok .0 .few) (ok .0 .board) (on-idle positive on) .prefix k in
+      stopped-off s w (Write who a bytes) k f
       (rw (f .memory) (off-undone (on .consistent) (idle calm) (agrees-none (on .commit)) (on .lengths)))
-  write-ends i a bytes k (finished e l f) =
-      let ok = write-ok i a bytes e in
-      finished-on s w (Write i a bytes) k f q
+  write-ends who a bytes k (finished e l f) =
+      let ok = write-ok who a bytes e in
+      finished-on s w (Write who a bytes) k f q
       (write-done on (bound .most-boards) bytes (ok .0) (touched-below s a (length bytes) positive (ok .1)))
 
-  write-step : (i a : ℕ) (bytes : List ℕ) (k : ℕ) → Invariant s (next s w (Write i a bytes) k)
+  write-step : (who : Requester) (a : ℕ) (bytes : List ℕ) (k : ℕ) → Invariant s (next s w (Write who a bytes) k)
   unfolding plan
-  write-step i a bytes k =
-      write-ends i a bytes k
-      (result h (w .state) (Write i a bytes) k
-      (λ e. inside-valid (write-inside s m i a bytes positive (write-ok i a bytes e .1))))
+  write-step who a bytes k =
+      write-ends who a bytes k
+      (result h (w .state) (Write who a bytes) k
+      (λ e. inside-valid (write-inside s m (board-of s who) a bytes positive (write-ok who a bytes e .1))))
 
   -- ---- a fault
 
@@ -452,10 +459,11 @@ module _ {s : Shape} (w : System) (h : Sound s (w .image)) (q : w .waiting ≡ t
 
     off-step : (request : Request) (k : ℕ) → Answers s w request k × Invariant s (next s w request k)
     unfolding refusals record-refused select
-    off-step (Read i a n room) k =
-        let z = off-refused (Read i a n room) k (off-refuses i _) refl in
+    off-step (Read who a n room) k =
+        let z = off-refused (Read who a n room) k (off-refuses (board-of s who) _) refl in
         (λ d. not-done (z .told-so) d, z .same)
-    off-step (Write i a bytes) k = (tt, off-refused (Write i a bytes) k (off-refuses i _) refl .same)
+    off-step (Write who a bytes) k =
+        (tt, off-refused (Write who a bytes) k (off-refuses (board-of s who) _) refl .same)
     off-step (Start i context) k =
         let z = off-refused (Start i context) k (off-refuses i _) refl in
         ((off-commits i context (started i (w .ledger)) (Start i context) k z, λ d. not-done (z .told-so) d), z .same)
@@ -473,8 +481,8 @@ module _ {s : Shape} (w : System) (h : Sound s (w .image)) (q : w .waiting ≡ t
 
 pub step : {s : Shape} (w : System) → Invariant s w → (request : Request) (k : ℕ)
     → Answers s w request k × Invariant s (next s w request k)
-step w (up h q on) (Read i a n room) k = read-step h q on i a n room k
-step w (up h q on) (Write i a bytes) k = (tt, write-step h q on i a bytes k)
+step w (up h q on) (Read who a n room) k = read-step h q on who a n room k
+step w (up h q on) (Write who a bytes) k = (tt, write-step h q on who a bytes k)
 step w (up h q on) (Start i context) k = start-step h q on i context k
 step w (up h q on) (Acknowledge i context) k = acknowledge-step h q on i context k
 step w (up h q on) (Fault i) k = fault-step h q on i k

@@ -19,7 +19,7 @@ use Rattle.volatile.specs.Volatile.{acknowledge, bad-record, off}
 use Rattle.protocol.specs.Accesses.{touched, bind-boards, bind-tag, bind-blocks}
 use Rattle.protocol.specs.declared.Binding.{Binding}
 use Rattle.protocol.specs.declared.Binding.the-variants.{OneWay, TwoWay, Opposite}
-use Rattle.protocol.specs.Accesses.{read-binding, write-binding}
+use Rattle.protocol.specs.Accesses.{board-of, read-binding, write-binding}
 use Rattle.protocol.specs.Calls.{Request, Read, Write, Start, Acknowledge, Fault, Power-up, Test, test, first}
 use Rattle.protocol.specs.Calls.{refusals, entry-tests, read-tests, write-tests, start-tests, acknowledge-tests}
 use Rattle.protocol.specs.Calls.{bad-tags, stored-group, placing, tagging, blocks-copied, completing, deciding}
@@ -29,6 +29,7 @@ use Rattle.protocol.specs.Ledger.{done, Verdict, refused, cut}
 use Rattle.protocol.specs.Claim.{verdict, System, waits, answer, next, Answers}
 use Rattle.protocol.specs.Demand1.{Left-in-order, Order-kept}
 use Rattle.protocol.specs.declared.Shape.{Shape}
+use Rattle.protocol.specs.declared.Requester.{Requester}
 use Rattle.volatile.specs.declared.Record.{Record}
 use Rattle.boards.proofs.Basics.{decide, clash, and-true, any-none, none-any, All, none, also, all-append, all-cond}
 use Rattle.boards.proofs.Basics.{all-map, or-false, false-or, or-right, true-or, refute, eqb-same}
@@ -37,6 +38,7 @@ use Rattle.boards.proofs.Groups.{commit-group-within}
 use Rattle.volatile.proofs.Order.{Orderly, orderly, orderly-record, May-acknowledge}
 use Rattle.volatile.proofs.Order.{order-opened, rows-within}
 use Rattle.volatile.proofs.Order.{depend-order, clear-order, fresh-order, awaiting-order}
+use Rattle.protocol.proofs.Refusals.{Clear, not-held, other-number, first-clear}
 use Rattle.protocol.proofs.Refusals.{begun, read-passed, write-passed, start-passed}
 use Rattle.protocol.proofs.Refusals.{acknowledge-passed, power-passed}
 use Rattle.protocol.proofs.Memory.{after-append, untouched}
@@ -45,7 +47,7 @@ use Rattle.protocol.proofs.Bridge.{in-order-sound, view-decision}
 use Rattle.protocol.proofs.Copies.{Inside, all-placing, all-blocks, all-contexts, blocks-inside, current}
 use Rattle.protocol.proofs.Safety.{completed, decision, decision-done, idle}
 use Rattle.protocol.proofs.Demand1.{cut-off, refused-record, same-record}
-use Rattle.protocol.proofs.Outcomes.{taken, turned-down, refused-as}
+use Rattle.protocol.proofs.Outcomes.{status-test, refused-as}
 use Rattle.protocol.proofs.Outcomes.{Result, turned-away, stopped, finished, result, not-done, cut-not-done}
 use Rattle.protocol.proofs.Plans.{plan-valid, ranged, write-inside, given-inside}
 use Rattle.protocol.proofs.Steps.{commit-binds}
@@ -171,24 +173,26 @@ module _ (s : Shape) (m : Memory) (r : Record) (limit : Limits s) (undecided : m
       → Orderly P r → Orderly P (bind-blocks depend how (m Tags) r i bs)
   access-state l how bs tags o = binds-order l how (m Tags) r bs (low-tags (m Tags) bs tags) o
 
-  read-keeps : (i a n room : ℕ) → i < P → Orderly P r → r .commit .acknowledged < 2 ^ 16
-      → first (read-tests s m r i a n room) ≡ 0 → Keeps-order s m (plan s m r (Read i a n room))
+  read-keeps : (who : Requester) (a n room : ℕ) → board-of s who < P → Orderly P r → r .commit .acknowledged < 2 ^ 16
+      → first (read-tests s m r who a n room) ≡ 0 → Keeps-order s m (plan s m r (Read who a n room))
   unfolding plan after
-  read-keeps i a n room l o small e =
-      let p = read-passed s m r i a n room e in
+  read-keeps who a n room l o small e =
+      let p = read-passed s m r who a n room e in
       record {
         undecided = undecided;
         tags = none;
         state = access-state l read-binding (touched s a n) (p .tags) o;
-        small = rw (commit-binds read-binding (m Tags) r i (touched s a n)) small;
+        small = rw (commit-binds read-binding (m Tags) r (board-of s who) (touched s a n)) small;
       }
 
-  write-keeps : (i a : ℕ) (bytes : List ℕ) → i < P → Orderly P r → r .commit .acknowledged < 2 ^ 16
-      → first (write-tests s m r i a (length bytes)) ≡ 0 → Keeps-order s m (plan s m r (Write i a bytes))
+  write-keeps : (who : Requester) (a : ℕ) (bytes : List ℕ) → board-of s who < P → Orderly P r
+      → r .commit .acknowledged < 2 ^ 16 → first (write-tests s m r who a (length bytes)) ≡ 0
+      → Keeps-order s m (plan s m r (Write who a bytes))
   unfolding plan rank
-  write-keeps i a bytes l o small e =
+  write-keeps who a bytes l o small e =
+      let i = board-of s who in
       let n = length bytes in
-      let p = write-passed s m r i a n e in
+      let p = write-passed s m r who a n e in
       let inside = write-inside s m i a bytes (limit .some-size) (ranged s a n (p .range)) in
       record {
         undecided = inside-undecided inside m ∙ undecided;
@@ -351,12 +355,12 @@ module _ (image : List ℕ) (r : Record) (small : r .commit .acknowledged < 2 ^ 
 
   plan-keeps : (request : Request) → refusal-at image r request ≡ 0 → Keeps-order s m (plan s m r request)
   unfolding refusals plan engaged
-  plan-keeps (Read i a n room) e =
-      let p = passed-first i (read-tests s m r i a n room) e in
-      read-keeps s m r (p .limit) (p .undecided) i a n room (p .board) (p .state) small (p .own)
-  plan-keeps (Write i a bytes) e =
-      let p = passed-first i (write-tests s m r i a (length bytes)) e in
-      write-keeps s m r (p .limit) (p .undecided) i a bytes (p .board) (p .state) small (p .own)
+  plan-keeps (Read who a n room) e =
+      let p = passed-first (board-of s who) (read-tests s m r who a n room) e in
+      read-keeps s m r (p .limit) (p .undecided) who a n room (p .board) (p .state) small (p .own)
+  plan-keeps (Write who a bytes) e =
+      let p = passed-first (board-of s who) (write-tests s m r who a (length bytes)) e in
+      write-keeps s m r (p .limit) (p .undecided) who a bytes (p .board) (p .state) small (p .own)
   plan-keeps (Start i context) e =
       let p = passed-first i (start-tests s r (length context)) e in
       given-keeps s m r (p .limit) (p .undecided) (p .board)
@@ -425,28 +429,9 @@ order-kept image r request k small v =
 unfoldable pub of-state : ℕ → Bool
 of-state n = eqb n 11 || eqb n 12
 
--- a test that does not hold, if it has one of these numbers
-record Clear-of-state (t : Test) : Type 0 where
-  passed : of-state (t .number) ≡ true → t .holds ≡ false
-
-first-clear : {ts : List Test} → All Clear-of-state ts → of-state (first ts) ≡ false
-unfolding first of-state
-first-clear none = refl
-first-clear (also {x = t} h hs) =
-    ⊎-elim
-    (λ (e : t .holds ≡ true). rw e (refute (of-state (t .number)) (λ n. clash e (h .passed n))))
-    (λ (e : t .holds ≡ false). rw e (first-clear hs))
-    (decide (t .holds))
-
-not-held : {b : Bool} {n : ℕ} → b ≡ false → Clear-of-state (test b n)
-not-held e = record { passed = λ n. e }
-
-other-number : {b : Bool} {n : ℕ} → of-state n ≡ false → Clear-of-state (test b n)
-other-number e = record { passed = λ n. clash n e }
-
 module _ {s : Shape} {image : List ℕ} (r : Record) (h : Sound s image) (undecided : byte image 9 ≡ 0)
     (state : bad-record (s .boards) r ≡ false) (tags : (b : ℕ) → view s image Tags b ≤ s .boards) where
-  entry-clear : (i : ℕ) → All Clear-of-state (entry-tests image r i)
+  entry-clear : (i : ℕ) → All (Clear of-state) (entry-tests image r i)
   unfolding entry-tests of-state
   entry-clear i =
       also (not-held (ap not (in-order-sound s image h 0 ∙ ap (λ n. leb n 0) undecided)))
@@ -461,41 +446,25 @@ module _ {s : Shape} {image : List ℕ} (r : Record) (h : Sound s image) (undeci
   pub otherwise-refused : first (refusals image s (view s image) r Power-up) ≡ 0 → (request : Request)
       → of-state (first (refusals image s (view s image) r request)) ≡ false
   unfolding refusals read-tests write-tests start-tests acknowledge-tests of-state
-  otherwise-refused power (Read i a n room) =
-      first-clear
-      (all-append (entry-clear i)
+  otherwise-refused power (Read who a n room) =
+      first-clear refl
+      (all-append (entry-clear (board-of s who))
       (also (other-number refl)
-      (also (other-number refl) (also (not-held (touched-low (touched s a n))) (also (other-number refl) none)))))
-  otherwise-refused power (Write i a bytes) =
-      first-clear
-      (all-append (entry-clear i)
       (also (other-number refl)
-      (also (not-held (touched-low (touched s a (length bytes)))) (also (other-number refl) none))))
+      (also (other-number refl) (also (not-held (touched-low (touched s a n))) (also (other-number refl) none))))))
+  otherwise-refused power (Write who a bytes) =
+      first-clear refl
+      (all-append (entry-clear (board-of s who))
+      (also (other-number refl)
+      (also (other-number refl)
+      (also (not-held (touched-low (touched s a (length bytes)))) (also (other-number refl) none)))))
   otherwise-refused power (Start i context) =
-      first-clear (all-append (entry-clear i) (also (other-number refl) (also (other-number refl) none)))
+      first-clear refl (all-append (entry-clear i) (also (other-number refl) (also (other-number refl) none)))
   otherwise-refused power (Acknowledge i context) =
-      first-clear
+      first-clear refl
       (all-append (entry-clear i) (also (other-number refl) (also (other-number refl) (also (other-number refl) none))))
-  otherwise-refused power (Fault i) = first-clear (entry-clear i)
+  otherwise-refused power (Fault i) = first-clear refl (entry-clear i)
   otherwise-refused power Power-up = ap of-state power
-
--- so its status is none of these
-pub status-clear : (image : List ℕ) (r : Record) (request : Request) (k : ℕ)
-    → of-state (refusal-at image r request) ≡ false
-    → of-state (perform image r request k .reply .answer .status) ≡ false
-unfolding executed refuse of-state
-status-clear image r request k h =
-    let n = refusal-at image r request in
-    ⊎-elim
-    (λ (e : eqb n 0 ≡ true).
-    ap (λ o. of-state (o .reply .answer .status)) (taken image refl r request (eqb-true n 0 e) k) ∙ ended (ltb k _))
-    (λ (e : eqb n 0 ≡ false).
-    ap (λ o. of-state (o .reply .answer .status)) (turned-down image refl r request (eqb-false n 0 e) k) ∙ h)
-    (decide (eqb n 0))
-  where
-    ended : (b : Bool) → of-state (cond b 9 0) ≡ false
-    ended true = refl
-    ended false = refl
 
 pub state-numbers : (n : ℕ) → of-state n ≡ false → (n ≢ 11) × (n ≢ 12)
 unfolding of-state
@@ -525,15 +494,15 @@ module _ {s : Shape} (w : System) (h : Sound s (w .image)) (on : On s (view s (w
   -- no call is refused for the state of image or record
   pub no-state-refusal : bad-record (s .boards) (w .state) ≡ false → (request : Request) (k : ℕ)
       → (answer w request k .reply .answer .status ≢ 11) × (answer w request k .reply .answer .status ≢ 12)
-  unfolding answer
+  unfolding answer of-state
   no-state-refusal r request k =
       let calm = idle (on-idle (limits s (h .allowed-shape) .some-size) on) in
       let zero = sym (view-decision h) ∙ on .undecided in
       let tests = otherwise-refused (w .state) h zero r tags-in-order (power-taken h (w .state) calm) request in
       state-numbers _
-      (status-clear (w .image) (w .state) request k
-      (subst (λ t. of-state (first (refusals (w .image) t (view t (w .image)) (w .state) request)) ≡ false)
-      (sym (h .shape)) tests))
+      (status-test of-state refl refl (w .image) (w .state) request k
+      ∙ subst (λ t. of-state (first (refusals (w .image) t (view t (w .image)) (w .state) request)) ≡ false)
+      (sym (h .shape)) tests)
 
 verdicts : (v : Verdict) → (v ≡ done) ⊎ ((v ≡ cut) ⊎ (v ≡ refused))
 verdicts done = inl refl

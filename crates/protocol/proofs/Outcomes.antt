@@ -1,7 +1,7 @@
 -- How a call ends on a sound image: refused, with nothing changed; cut; or done.
 use Prim.Native.Nat.{ℕ, zero, suc, _≤_, _<_}
-use mathlib.Core.Path.{_≡_, refl, _∙_, ap}
-use mathlib.Core.Bool.{Bool, true, false, _&&_}
+use mathlib.Core.Path.{_≡_, refl, sym, _∙_, ap}
+use mathlib.Core.Bool.{Bool, true, false, _&&_, cond}
 use mathlib.Core.List.{List, [], _∷_, map}
 use mathlib.Core.Logic.{⊎-elim, _≢_}
 use lib.Dec.{eqb, ltb}
@@ -14,7 +14,7 @@ use Rattle.protocol.specs.Image.{Memory, Put, rank, raw, after, shape-of
 use Rattle.volatile.specs.Volatile.{off}
 use Rattle.protocol.specs.Calls.{Request, first, refusals}
 use Rattle.protocol.specs.Calls.{Plan, plan, Outcome, refused as refuse, decides, executed, record-refused}
-use Rattle.protocol.specs.Calls.{carried-out, perform}
+use Rattle.protocol.specs.Calls.{refusal-at, carried-out, perform}
 use Rattle.protocol.specs.Ledger.{Verdict, refused, done, cut}
 use Rattle.protocol.specs.Claim.{verdict}
 use Rattle.protocol.specs.declared.Shape.{Shape}
@@ -89,6 +89,24 @@ module _ {s : Shape} (image : List ℕ) (same : shape-of image ≡ s) (r : Recor
       let tests = refusals image s (view s image) r request in
       let never-cut = uncut tests (refusals-uncut image s (view s image) r request) in
       ap verdict (turned-down e k) ∙ rw (ne-eqb (first tests) 0 e, ne-eqb (first tests) 9 never-cut)
+
+-- the status is the refusal's number, or 0 or 9: a test that tells those two from nothing else tells the number
+pub status-test : (p : ℕ → Bool) → p 0 ≡ false → p 9 ≡ false → (image : List ℕ) (r : Record) (request : Request) (k : ℕ)
+    → p (perform image r request k .reply .answer .status) ≡ p (refusal-at image r request)
+unfolding executed refuse
+status-test p done-no cut-no image r request k =
+    let n = refusal-at image r request in
+    ⊎-elim
+    (λ (e : eqb n 0 ≡ true).
+    let z = eqb-true n 0 e in
+    ap (λ o. p (o .reply .answer .status)) (taken image refl r request z k) ∙ ended (ltb k _) ∙ sym (ap p z ∙ done-no))
+    (λ (e : eqb n 0 ≡ false).
+    ap (λ o. p (o .reply .answer .status)) (turned-down image refl r request (eqb-false n 0 e) k))
+    (decide (eqb n 0))
+  where
+    ended : (b : Bool) → p (cond b 9 0) ≡ false
+    ended true = cut-no
+    ended false = done-no
 
 module _ {s : Shape} {image : List ℕ} (h : Sound s image) (r : Record) (request : Request) (k : ℕ) where
   abbrev the-plan : Plan

@@ -16,6 +16,7 @@ use Rattle.protocol.specs.Image.{size, after, cells, raw, shape-of, view
 use Rattle.protocol.specs.Accesses.{touched}
 use Rattle.protocol.specs.Calls.{bad-range, stored-group, placing, tagging, completing, deciding, completed-first}
 use Rattle.protocol.specs.Calls.{recovering, decides, acknowledging, plan, refusals}
+use Rattle.protocol.specs.Accesses.{board-of}
 use Rattle.protocol.specs.Calls.{Request, Read, Write, Start, Acknowledge, Fault, Power-up, refusal-at}
 use Rattle.protocol.specs.declared.Shape.{Shape}
 use Rattle.boards.proofs.Basics.{or-false, All, none, also, all-append, all-cond, all-map, anyOf-false, or-right}
@@ -158,11 +159,12 @@ module _ (image : List ℕ) (r : Record) where
   pub plan-valid : (request : Request) → refusal-at image r request ≡ 0
       → Sound shape image × All (Valid shape) (plan shape memory r request .stores)
   unfolding refusals plan rank size
-  plan-valid (Read i a n room) e = (begun image r i _ refl e .0 .sound, none)
-  plan-valid (Write i a bytes) e =
+  plan-valid (Read who a n room) e = (begun image r (board-of shape who) _ refl e .0 .sound, none)
+  plan-valid (Write who a bytes) e =
+      let i = board-of shape who in
       let b = begun image r i _ refl e in
       let n = length bytes in
-      let r = ranged shape a n (write-passed shape memory r i a n (b .1) .range) in
+      let r = ranged shape a n (write-passed shape memory r who a n (b .1) .range) in
       let blocks = touched-below shape a n (limits shape (b .0 .sound .allowed-shape) .some-size) r in
       let tags = inside-valid (tagging-inside shape memory i (touched shape a n) blocks) in
       let cells = inside-valid (placing-inside shape Current a bytes (omega arith) (r .within)) in

@@ -11,22 +11,24 @@ use native.Mathlib.Omega.{arith}
 use borrow.Author.Tests.{eqb-true, eqb-false, leb-false, ltb-false, ltb-true}
 use Rattle.boards.specs.Lists.{every, anyOf}
 use Rattle.boards.specs.Boards.{has, tagged-in}
-use Rattle.boards.proofs.Basics.{decide, or-false, not-false, All, none, also}
+use Rattle.boards.proofs.Basics.{clash, decide, refute, or-false, not-false, All, none, also}
 use Rattle.protocol.specs.Image.{Memory, Decision, Tags, byte, in-order}
 use Rattle.protocol.specs.Image.{shape-of, view, base, size}
 use Rattle.volatile.specs.Volatile.{engaged, commit-of, bad-record}
+use Rattle.protocol.specs.Accesses.{board-of}
 use Rattle.protocol.specs.Calls.{Request, Read, Write, Start, Acknowledge, Fault, Power-up, Test, test, first}
 use Rattle.protocol.specs.Calls.{refusals}
 use Rattle.protocol.specs.Calls.{tags-of, bad-range, stored-group, bad-tags, bad-decision}
 use Rattle.protocol.specs.Calls.{entry-tests, read-tests, write-tests, start-tests, acknowledge-tests}
 use Rattle.protocol.specs.Calls.{power-tests}
 use Rattle.protocol.specs.declared.Shape.{Shape}
+use Rattle.protocol.specs.declared.Requester.{Requester}
 use Rattle.volatile.specs.declared.Record.{Record}
 use Rattle.protocol.proofs.Bridge.{Sound, order-sound}
 
 -- ---- lists of tests
 
-abbrev Numbered : List Test → Type 0
+abbrev pub Numbered : List Test → Type 0
 Numbered ts = anyOf (λ t. eqb (t .number) 0) ts ≡ false
 
 -- one test
@@ -81,6 +83,26 @@ none-hold (t ∷ ts) n h =
     (λ (e : t .holds ≡ false). also e (none-hold ts (both .1) (rw e at h)))
     (decide (t .holds))
 
+-- a test that does not hold, if p holds of its number
+pub record Clear (p : ℕ → Bool) (t : Test) : Type 0 where
+  pub passed : p (t .number) ≡ true → t .holds ≡ false
+
+module _ {p : ℕ → Bool} where
+  pub not-held : {b : Bool} {n : ℕ} → b ≡ false → Clear p (test b n)
+  not-held e = record { passed = λ n. e }
+
+  pub other-number : {b : Bool} {n : ℕ} → p n ≡ false → Clear p (test b n)
+  other-number e = record { passed = λ n. clash n e }
+
+  pub first-clear : {ts : List Test} → p 0 ≡ false → All (Clear p) ts → p (first ts) ≡ false
+  unfolding first
+  first-clear z none = z
+  first-clear z (also {x = t} h hs) =
+      ⊎-elim
+      (λ (e : t .holds ≡ true). rw e (refute (p (t .number)) (λ n. clash e (h .passed n))))
+      (λ (e : t .holds ≡ false). rw e (first-clear z hs))
+      (decide (t .holds))
+
 -- no refusal has the number that says "cut"
 pub uncut : (ts : List Test) → anyOf (λ t. eqb (t .number) 9) ts ≡ false → first ts ≢ 9
 unfolding first anyOf
@@ -95,8 +117,8 @@ uncut (t ∷ ts) h e =
 pub refusals-uncut : (image : List ℕ) (s : Shape) (m : Memory) (r : Record) (request : Request)
     → anyOf (λ t. eqb (t .number) 9) (refusals image s m r request) ≡ false
 unfolding refusals entry-tests read-tests write-tests start-tests acknowledge-tests power-tests anyOf
-refusals-uncut image s m r (Read i a n room) = refl
-refusals-uncut image s m r (Write i a bytes) = refl
+refusals-uncut image s m r (Read who a n room) = refl
+refusals-uncut image s m r (Write who a bytes) = refl
 refusals-uncut image s m r (Start i context) = refl
 refusals-uncut image s m r (Acknowledge i context) = refl
 refusals-uncut image s m r (Fault i) = refl
@@ -150,21 +172,24 @@ entered {s} image r i e z = go (none-hold (entry-tests image r i) refl z)
           sound = subst (λ t. Sound t image) e (order-sound (not-false (in-order 0 image) a) .0);
         }
 
-module _ (s : Shape) (m : Memory) (r : Record) (i a n : ℕ) where
-  pub read-passed : (room : ℕ) → first (read-tests s m r i a n room) ≡ 0 → Read-passed s m r i a n room
+module _ (s : Shape) (m : Memory) (r : Record) (who : Requester) (a n : ℕ) where
+  abbrev i : ℕ
+  i = board-of s who
+
+  pub read-passed : (room : ℕ) → first (read-tests s m r who a n room) ≡ 0 → Read-passed s m r i a n room
   unfolding read-tests anyOf
-  read-passed room z = go (none-hold (read-tests s m r i a n room) refl z)
+  read-passed room z = go (none-hold (read-tests s m r who a n room) refl z)
     where
-      go : All (λ t. t .holds ≡ false) (read-tests s m r i a n room) → Read-passed s m r i a n room
-      go (also a₁ (also b (also c (also d none)))) =
+      go : All (λ t. t .holds ≡ false) (read-tests s m r who a n room) → Read-passed s m r i a n room
+      go (also a₁ (also l (also b (also c (also d none))))) =
           record { range = a₁; fits = ltb-false room n b; tags = c; free = d }
 
-  pub write-passed : first (write-tests s m r i a n) ≡ 0 → Write-passed s m r i a n
+  pub write-passed : first (write-tests s m r who a n) ≡ 0 → Write-passed s m r i a n
   unfolding write-tests anyOf
-  write-passed z = go (none-hold (write-tests s m r i a n) refl z)
+  write-passed z = go (none-hold (write-tests s m r who a n) refl z)
     where
-      go : All (λ t. t .holds ≡ false) (write-tests s m r i a n) → Write-passed s m r i a n
-      go (also a₁ (also b (also c none))) =
+      go : All (λ t. t .holds ≡ false) (write-tests s m r who a n) → Write-passed s m r i a n
+      go (also a₁ (also l (also b (also c none)))) =
           let both = or-false (has (engaged r) i) (anyOf (tagged-in (engaged r)) (tags-of s m a n)) c in
           record { range = a₁; tags = b; free = both .0; untied = both .1 }
 
@@ -266,8 +291,8 @@ module _ {image other : List ℕ} (h : Alike image other) where
   alike : (r : Record) (request : Request)
       → refusals image s (view s image) r request ≡ refusals other s (view s other) r request
   unfolding refusals read-tests write-tests power-tests bad-tags bad-decision
-  alike r (Read i a n room) = rw (entry-alike r i, tags-alike)
-  alike r (Write i a bytes) = rw (entry-alike r i, tags-alike)
+  alike r (Read who a n room) = rw (entry-alike r (board-of s who), tags-alike)
+  alike r (Write who a bytes) = rw (entry-alike r (board-of s who), tags-alike)
   alike r (Start i context) = rw (entry-alike r i)
   alike r (Acknowledge i context) = rw (entry-alike r i)
   alike r (Fault i) = entry-alike r i

@@ -109,8 +109,8 @@ module _ (s : Shape) {a b : ℕ} where
   commit-together : (request : Request) (k : ℕ) (l : Ledger) → Together (l .notes) a b
       → Together (commit-effect s request k l .notes) a b
   unfolding commit-effect started
-  commit-together (Read i c n room) k l t = t
-  commit-together (Write i c bytes) k l t = t
+  commit-together (Read who c n room) k l t = t
+  commit-together (Write who c bytes) k l t = t
   commit-together (Start i context) k l t = acknowledged-together i context k (started i l) t
   commit-together (Acknowledge i context) k l t = acknowledged-together i context k l t
   commit-together (Fault i) k l t = t
@@ -119,8 +119,8 @@ module _ (s : Shape) {a b : ℕ} where
   effect-together : (request : Request) (k : ℕ) (l : Ledger) → Together (l .notes) a b
       → Together (effect s request k l .notes) a b
   unfolding effect noted cleared
-  effect-together (Read i c n room) k l t = together-older t _
-  effect-together (Write i c bytes) k l t = together-older t _
+  effect-together (Read who c n room) k l t = together-older t _
+  effect-together (Write who c bytes) k l t = together-older t _
   effect-together (Start i context) k l t = commit-together (Start i context) k l t
   effect-together (Acknowledge i context) k l t = commit-together (Acknowledge i context) k l t
   effect-together (Fault i) k l t = together-settled t _ undone

@@ -1,12 +1,19 @@
--- What calls and ledger share of an access: the blocks that it touches, and how it binds boards
--- (document 01, "Accesses"; document 02, Req 01).
+-- What calls and ledger share of an access: its board, the blocks that it touches, and how it binds boards
+-- (document 01, "Accesses"; document 02, Req 01 and 03).
 use Prim.Native.Nat.{ℕ, zero, suc, _+_, _-_, _*_, _/_}
 use mathlib.Core.Bool.{Bool, _&&_, cond}
 use mathlib.Core.List.{List, [], _∷_}
 use lib.Dec.{eqb, leb}
 use Rattle.protocol.specs.declared.Shape.{Shape}
+use Rattle.protocol.specs.declared.Requester.{Requester}
+use Rattle.protocol.specs.declared.Requester.the-variants.{Board, Port}
 use Rattle.protocol.specs.declared.Binding.{Binding}
 use Rattle.protocol.specs.declared.Binding.the-variants.{OneWay, TwoWay, Opposite}
+
+-- the board whose access it is: the port's is the last, P − 1
+unfoldable pub board-of : Shape → Requester → ℕ
+board-of s (Board i) = i
+board-of s Port = s .boards - 1
 
 -- the blocks that n cells from a on touch, if n is not 0: the first, and the last if it is another
 unfoldable pub touched : Shape → ℕ → ℕ → List ℕ

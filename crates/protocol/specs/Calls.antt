@@ -12,17 +12,19 @@ use Rattle.protocol.specs.Image.{cells, allowed, total, header, mark, sh
 use Rattle.protocol.specs.Image.{Store, made, Put, put, raw, after}
 use Rattle.volatile.specs.Volatile.{fresh, off, depends, engaged, commit-of, depend, clear, opened, acknowledge}
 use Rattle.volatile.specs.Volatile.{bad-record}
-use Rattle.protocol.specs.Accesses.{touched, read-binding, write-binding, bind-blocks}
+use Rattle.protocol.specs.Accesses.{board-of, touched, read-binding, write-binding, bind-blocks}
 use Rattle.protocol.specs.declared.Shape.{Shape}
+use Rattle.protocol.specs.declared.Requester.{Requester}
+use Rattle.protocol.specs.declared.Requester.the-variants.{Board, Port}
 use Rattle.volatile.specs.declared.Record.{Record}
 use Rattle.protocol.specs.declared.Answer.{Answer}
 use Rattle.protocol.specs.declared.Reply.{Reply}
 
--- What a call asks for, with all arguments but image, record and budget: boards and cells by number, bytes; of
--- a read's answer buffer its length, `room`. (Document 01 calls the papers that come later "requests"; not here.)
+-- What a call asks for, with all arguments but image, record and budget: boards and cells by number, of an access
+-- who makes it; bytes; of a read's answer buffer its length, `room`. (Document 01 calls the papers that come later "requests"; not here.)
 pub data Request : Type 0 where
-  Read : (board cell n room : ℕ) → Request
-  Write : (board cell : ℕ) (bytes : List ℕ) → Request
+  Read : (who : Requester) (cell n room : ℕ) → Request
+  Write : (who : Requester) (cell : ℕ) (bytes : List ℕ) → Request
   Start : (board : ℕ) (context : List ℕ) → Request
   Acknowledge : (board : ℕ) (context : List ℕ) → Request
   Fault : (board : ℕ) → Request
@@ -52,6 +54,11 @@ bad-range s a n =
     || (ltb (s .size) n
     || (ltb (cells s) (a + n) || not (eqb (a / s .size) ((a + n - 1) / s .size))))
 
+-- the port makes no access of more than 4 cells
+unfoldable pub too-long : Requester → ℕ → Bool
+too-long (Board i) n = false
+too-long Port n = ltb 4 n
+
 -- the deciding group, low byte first
 unfoldable pub stored-group : Memory → ℕ
 stored-group m = m Group 0 + 256 * m Group 1
@@ -73,20 +80,22 @@ entry-tests image r i =
     let p = shape-of image .boards in
     test (not (in-order 0 image)) 11 ∷ test (bad-record p r) 12 ∷ test (leb p i) 1 ∷ []
 
-unfoldable pub read-tests : Shape → Memory → Record → ℕ → ℕ → ℕ → ℕ → List Test
-read-tests s m r i a n room =
+unfoldable pub read-tests : Shape → Memory → Record → Requester → ℕ → ℕ → ℕ → List Test
+read-tests s m r who a n room =
     test (bad-range s a n) 2
+    ∷ test (too-long who n) 17
     ∷ test (ltb room n) 5
     ∷ test (anyOf (ltb (s .boards)) (tags-of s m a n)) 11
-    ∷ test (has (engaged r) i) 13
+    ∷ test (has (engaged r) (board-of s who)) 13
     ∷ []
 
-unfoldable pub write-tests : Shape → Memory → Record → ℕ → ℕ → ℕ → List Test
-write-tests s m r i a n =
+unfoldable pub write-tests : Shape → Memory → Record → Requester → ℕ → ℕ → List Test
+write-tests s m r who a n =
     let tags = tags-of s m a n in
     test (bad-range s a n) 2
+    ∷ test (too-long who n) 17
     ∷ test (anyOf (ltb (s .boards)) tags) 11
-    ∷ test (has (engaged r) i || anyOf (tagged-in (engaged r)) tags) 13
+    ∷ test (has (engaged r) (board-of s who) || anyOf (tagged-in (engaged r)) tags) 13
     ∷ []
 
 -- in these n is the length of the context
@@ -108,8 +117,8 @@ power-tests image s m =
     test (not (in-order 1 image)) 11 ∷ test (bad-tags s m) 11 ∷ test (bad-decision s m) 11 ∷ []
 
 unfoldable pub refusals : List ℕ → Shape → Memory → Record → Request → List Test
-refusals image s m r (Read i a n room) = entry-tests image r i ++ read-tests s m r i a n room
-refusals image s m r (Write i a bytes) = entry-tests image r i ++ write-tests s m r i a (length bytes)
+refusals image s m r (Read who a n room) = entry-tests image r (board-of s who) ++ read-tests s m r who a n room
+refusals image s m r (Write who a bytes) = entry-tests image r (board-of s who) ++ write-tests s m r who a (length bytes)
 refusals image s m r (Start i context) = entry-tests image r i ++ start-tests s r (length context)
 refusals image s m r (Acknowledge i context) = entry-tests image r i ++ acknowledge-tests s r i (length context)
 refusals image s m r (Fault i) = entry-tests image r i
@@ -187,14 +196,15 @@ acknowledging s m before i context =
     }
 
 unfoldable pub plan : Shape → Memory → Record → Request → Plan
-plan s m r (Read i a n room) =
+plan s m r (Read who a n room) =
     record {
       group = 0;
-      next = bind-blocks depend read-binding (m Tags) r i (touched s a n);
+      next = bind-blocks depend read-binding (m Tags) r (board-of s who) (touched s a n);
       stores = [];
       bytes = span (m Current) a n;
     }
-plan s m r (Write i a bytes) =
+plan s m r (Write who a bytes) =
+    let i = board-of s who in
     let n = length bytes in
     record {
       group = 0;
@@ -245,8 +255,8 @@ executed k stores image group next bytes =
 
 -- a refused power-up answers the off record, every other refused call the record that it was given
 unfoldable pub record-refused : Record → Request → Record
-record-refused r (Read board cell n room) = r
-record-refused r (Write board cell bytes) = r
+record-refused r (Read who cell n room) = r
+record-refused r (Write who cell bytes) = r
 record-refused r (Start board context) = r
 record-refused r (Acknowledge board context) = r
 record-refused r (Fault board) = r

@@ -42,8 +42,8 @@ pub record Call : Type 0 where
 unfoldable pub waits : Request → Verdict → Bool → Bool
 waits request refused w = w
 waits request cut w = true
-waits (Read i a n room) done w = w
-waits (Write i a bytes) done w = w
+waits (Read who a n room) done w = w
+waits (Write who a bytes) done w = w
 waits (Start i context) done w = w
 waits (Acknowledge i context) done w = w
 waits (Fault i) done w = w
@@ -108,11 +108,11 @@ pub record Commits (s : Shape) (i : ℕ) (context : List ℕ) (k : ℕ) (l : Led
   pub decided : o .reply .answer .decided ≡ decides-now s i context k l (verdict o)
 
 abbrev pub Answers : Shape → System → Request → ℕ → Type 0
-Answers s w (Read i a n room) k =
-    verdict (answer w (Read i a n room) k) ≡ done
-    → answer w (Read i a n room) k .bytes
-    ≡ bytes-from (next s w (Read i a n room) k .ledger .notes) a (newest (next s w (Read i a n room) k .ledger .notes))
-Answers s w (Write i a bytes) k = Unit {0}
+Answers s w (Read who a n room) k =
+    let notes = next s w (Read who a n room) k .ledger .notes in
+    verdict (answer w (Read who a n room) k) ≡ done
+    → answer w (Read who a n room) k .bytes ≡ bytes-from notes a (newest notes)
+Answers s w (Write who a bytes) k = Unit {0}
 Answers s w (Start i context) k =
     Commits s i context k (started i (w .ledger)) (answer w (Start i context) k)
     × (verdict (answer w (Start i context) k) ≡ done

@@ -8,7 +8,7 @@ use lib.Dec.{eqb, ltb, leb}
 use lib.ListN.{length, getD, replicate}
 use Rattle.boards.specs.Lists.{span, anyOf, select}
 use Rattle.boards.specs.Boards.{has, with-board, meets, Links, unlinked, link, unlink, commit-group, fault-group}
-use Rattle.protocol.specs.Accesses.{touched, read-binding, write-binding, bind-blocks}
+use Rattle.protocol.specs.Accesses.{board-of, touched, read-binding, write-binding, bind-blocks}
 use Rattle.protocol.specs.declared.Binding.{Binding}
 use Rattle.protocol.specs.Calls.{Request, Read, Write, Start, Acknowledge, Fault, Power-up}
 use Rattle.protocol.specs.declared.Shape.{Shape}
@@ -225,16 +225,19 @@ acknowledged s i context k l =
 
 -- what a start or an acknowledgement, done or cut, does; nothing for the other requests
 unfoldable pub commit-effect : Shape → Request → ℕ → Ledger → Ledger
-commit-effect s (Read i a n room) k l = l
-commit-effect s (Write i a bytes) k l = l
+commit-effect s (Read who a n room) k l = l
+commit-effect s (Write who a bytes) k l = l
 commit-effect s (Start i context) k l = acknowledged s i context k (started i l)
 commit-effect s (Acknowledge i context) k l = acknowledged s i context k l
 commit-effect s (Fault i) k l = l
 commit-effect s Power-up k l = l
 
 unfoldable pub effect : Shape → Request → ℕ → Ledger → Ledger
-effect s (Read i a n room) k l = noted s read-binding i a n (Read-from (span (source (l .notes)) a n)) l
-effect s (Write i a bytes) k l = let n = length bytes in noted s (write-binding s a n) i a n (Wrote bytes) l
+effect s (Read who a n room) k l =
+    noted s read-binding (board-of s who) a n (Read-from (span (source (l .notes)) a n)) l
+effect s (Write who a bytes) k l =
+    let n = length bytes in
+    noted s (write-binding s a n) (board-of s who) a n (Wrote bytes) l
 effect s (Start i context) k l = commit-effect s (Start i context) k l
 effect s (Acknowledge i context) k l = commit-effect s (Acknowledge i context) k l
 effect s (Fault i) k l = cleared (has (fault-group (l .links) i)) undone l

@@ -5,3 +5,4 @@ pub mod Ledger
 pub mod Dependences
 pub mod Claim
 pub mod Demand1
+pub mod Ports

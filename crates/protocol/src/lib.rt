@@ -9,6 +9,12 @@ pub struct Shape {
     pub context: usize,
 }
 
+// Who makes an access: a board, by its number, or the fitter's port (document 02, Req 03).
+pub enum Requester {
+    Board(usize),
+    Port,
+}
+
 // How an access of board i binds it and another board j, the block's active writer: i comes to depend on j, each on the
 // other, or j on i (document 004's "opposite dependency").
 pub enum Binding {
