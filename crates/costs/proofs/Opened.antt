@@ -12,6 +12,7 @@ use Rattle.boards.proofs.Groups.{count}
 use Rattle.volatile.specs.declared.Record.{Record}
 use Rattle.volatile.proofs.Order.{orderly}
 use Rattle.protocol.specs.Image.{Memory, Tags, shape-of, view}
+use Rattle.protocol.specs.Accesses.{board-of}
 use Rattle.protocol.specs.Calls.{Request, Read, Write, Start, Acknowledge, Fault, Power-up, Test, first, refusals}
 use Rattle.protocol.specs.Calls.{entry-tests, refused as refuse, refusal-at, perform}
 use Rattle.protocol.specs.declared.Shape.{Shape}
@@ -55,8 +56,8 @@ off-stops image r i ts down z =
 pub off-refused : (image : List ℕ) (r : Record) (request : Request) → request ≢ Power-up → r .on ≡ false
     → refusal-at image r request ≢ 0
 unfolding refusals
-off-refused image r (Read i a n room) other down z = off-stops image r i _ down z
-off-refused image r (Write i a bytes) other down z = off-stops image r i _ down z
+off-refused image r (Read who a n room) other down z = off-stops image r (board-of (shape-of image) who) _ down z
+off-refused image r (Write who a bytes) other down z = off-stops image r (board-of (shape-of image) who) _ down z
 off-refused image r (Start i context) other down z = off-stops image r i _ down z
 off-refused image r (Acknowledge i context) other down z = off-stops image r i _ down z
 off-refused image r (Fault i) other down z = off-stops image r i [] down (rw append-nil z)

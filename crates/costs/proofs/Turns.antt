@@ -16,11 +16,12 @@ use Rattle.boards.proofs.Groups.{below-or, count}
 use Rattle.volatile.specs.Volatile.{off, depends, engaged, left-open, clear}
 use Rattle.volatile.specs.declared.Record.{Record}
 use Rattle.protocol.specs.Image.{Memory, Tags, Current, Put, rank, view}
-use Rattle.protocol.specs.Accesses.{touched}
+use Rattle.protocol.specs.Accesses.{board-of, touched}
 use Rattle.protocol.specs.Calls.{Request, Read, Write, Start, Acknowledge, Fault, Power-up, first}
 use Rattle.protocol.specs.Calls.{refusals}
 use Rattle.protocol.specs.Calls.{plan}
 use Rattle.protocol.specs.declared.Shape.{Shape}
+use Rattle.protocol.specs.declared.Requester.{Requester}
 use Rattle.protocol.proofs.Refusals.{begun, write-passed, start-passed}
 use Rattle.protocol.proofs.Steps.{commit-binds}
 use Rattle.costs.specs.Claims.{commit-request, drops, drops-commit}
@@ -73,20 +74,23 @@ module _ (s : Shape) (g : ℕ) (m₀ : Memory) where
         }))
         (below-or k (length (stores-of request)))
 
-    read-turn : (i a c room k : ℕ) → Passed (Read i a c room) → Turned s g m₀ n image r (Read i a c room) k
+    read-turn : (who : Requester) (a c room k : ℕ) → Passed (Read who a c room)
+        → Turned s g m₀ n image r (Read who a c room) k
     unfolding plan commit-request
-    read-turn i a c room k passed =
-        other-turn (Read i a c room) passed k refl (λ l. (commit-binds _ (memory Tags) r i (touched s a c), none))
+    read-turn who a c room k passed =
+        other-turn (Read who a c room) passed k refl
+        (λ l. (commit-binds _ (memory Tags) r (board-of s who) (touched s a c), none))
 
-    write-turn : (i a : ℕ) (bytes : List ℕ) (k : ℕ) → Passed (Write i a bytes)
-        → Turned s g m₀ n image r (Write i a bytes) k
+    write-turn : (who : Requester) (a : ℕ) (bytes : List ℕ) (k : ℕ) → Passed (Write who a bytes)
+        → Turned s g m₀ n image r (Write who a bytes) k
     unfolding refusals plan commit-request engaged rank
-    write-turn i a bytes k passed =
+    write-turn who a bytes k passed =
+        let i = board-of s who in
         let bs = touched s a (length bytes) in
-        let p = write-passed s memory r i a (length bytes) (begun image r i _ (w .shape) passed .1) in
+        let p = write-passed s memory r who a (length bytes) (begun image r i _ (w .shape) passed .1) in
         let free = sym (ap (λ x. has x i) (w .members)) ∙ p .free in
         let untied = sym (ap (λ x. anyOf (tagged-in x) (map (memory Tags) bs)) (w .members)) ∙ p .untied in
-        other-turn (Write i a bytes) passed k refl
+        other-turn (Write who a bytes) passed k refl
         (λ l. (
           commit-binds _ (memory Tags) r i bs,
           all-append (tagging-apart i free memory bs untied) (placing-apart Current a bytes (omega arith)),
@@ -114,8 +118,8 @@ module _ (s : Shape) (g : ℕ) (m₀ : Memory) where
     taken-turn : (request : Request) (k : ℕ) → Passed request → drops-commit g (called image r request k) ≡ false
         → Turned s g m₀ n image r request k
     unfolding drops
-    taken-turn (Read i a c room) k passed calm = read-turn i a c room k passed
-    taken-turn (Write i a bytes) k passed calm = write-turn i a bytes k passed
+    taken-turn (Read who a c room) k passed calm = read-turn who a c room k passed
+    taken-turn (Write who a bytes) k passed calm = write-turn who a bytes k passed
     taken-turn (Start i context) k passed calm = start-turn i context k passed
     taken-turn (Acknowledge i context) k passed calm =
         given-turn s g m₀ group (acknowledge-giving s g m₀ i context w passed) k

@@ -60,8 +60,8 @@ is-cut x = eqb (x .answer .status) 9
 -- a start or an acknowledgement by a board of g; up to the decision those that are not refused are the calls of the
 -- commit of g
 unfoldable pub commit-request : ℕ → Request → Bool
-commit-request g (Read i a n room) = false
-commit-request g (Write i a bytes) = false
+commit-request g (Read who a n room) = false
+commit-request g (Write who a bytes) = false
 commit-request g (Start i context) = has g i
 commit-request g (Acknowledge i context) = has g i
 commit-request g (Fault i) = false
@@ -80,8 +80,8 @@ until-decided g (x ∷ xs) = let rest = until-decided g xs in x ∷ cond (ends-c
 
 -- a power-up, or a fault that rolls back a board of g: it drops the commit
 unfoldable pub drops : ℕ → Request → ℕ → Bool
-drops g (Read i a n room) group = false
-drops g (Write i a bytes) group = false
+drops g (Read who a n room) group = false
+drops g (Write who a bytes) group = false
 drops g (Start i context) group = false
 drops g (Acknowledge i context) group = false
 drops g (Fault i) group = meets g (has group)

@@ -40,8 +40,8 @@ unordered image z most = rw z
 all-refused : (image : List ℕ) (request : Request) (k : ℕ) → byte image 0 ≡ 0 →
     perform image off request k ≡ refused 11 image off
 unfolding perform refusals entry-tests power-tests first record-refused
-all-refused image (Read i a n room) k z = rw (unordered image z 0)
-all-refused image (Write i a bytes) k z = rw (unordered image z 0)
+all-refused image (Read who a n room) k z = rw (unordered image z 0)
+all-refused image (Write who a bytes) k z = rw (unordered image z 0)
 all-refused image (Start i context) k z = rw (unordered image z 0)
 all-refused image (Acknowledge i context) k z = rw (unordered image z 0)
 all-refused image (Fault i) k z = rw (unordered image z 0)

@@ -11,11 +11,12 @@ use lib.ListN.{length}
 use borrow.Author.Tests.{ne-eqb}
 use Rattle.boards.specs.Boards.{Links, unlinked, link, Chain, here, step, Exactly}
 use Rattle.protocol.specs.Image.{Tags, size, shape-of, view}
-use Rattle.protocol.specs.Accesses.{touched, whole, write-binding, bind-boards, bind-tag, bind-blocks}
+use Rattle.protocol.specs.Accesses.{board-of, touched, whole, write-binding, bind-boards, bind-tag, bind-blocks}
 use Rattle.protocol.specs.Calls.{Write, Fault, first, refusals}
 use Rattle.protocol.specs.Ledger.{done, noted, effect, update}
 use Rattle.protocol.specs.Claim.{verdict, System, answer, next}
 use Rattle.protocol.specs.declared.Shape.{Shape}
+use Rattle.protocol.specs.declared.Requester.{Requester}
 use Rattle.boards.proofs.Basics.{refute, clash, eqb-same}
 use Rattle.boards.proofs.Groups.{link-new, link-old, link-cases, links-ext}
 use Rattle.protocol.proofs.Accesses.{whole-bounds, bounds-whole}
@@ -32,21 +33,21 @@ use Rattle.overwrites.specs.Overwrites.{Overwrite, Inside, Rolls-back, F
 -- ---- a write that is done
 
 -- image, record and ledger agree, and its range is in order
-write-taken : {s : Shape} (w : System) (i a : ℕ) (bytes : List ℕ) (k : ℕ)
-    → verdict (answer w (Write i a bytes) k) ≡ done → Invariant s w
+write-taken : {s : Shape} (w : System) (who : Requester) (a : ℕ) (bytes : List ℕ) (k : ℕ)
+    → verdict (answer w (Write who a bytes) k) ≡ done → Invariant s w
     → On s (view s (w .image)) (w .state) (w .ledger) × Ranged s a (length bytes)
 unfolding answer refusals
-write-taken {s} w i a bytes k v = go
+write-taken {s} w who a bytes k v = go
   where
     passed : shape-of (w .image) ≡ s
-        → first (refusals (w .image) s (view s (w .image)) (w .state) (Write i a bytes)) ≡ 0
+        → first (refusals (w .image) s (view s (w .image)) (w .state) (Write who a bytes)) ≡ 0
     passed same =
-        subst (λ t. first (refusals (w .image) t (view t (w .image)) (w .state) (Write i a bytes)) ≡ 0) same
-        (done-taken (w .image) (w .state) (Write i a bytes) k v)
+        subst (λ t. first (refusals (w .image) t (view t (w .image)) (w .state) (Write who a bytes)) ≡ 0) same
+        (done-taken (w .image) (w .state) (Write who a bytes) k v)
 
     go : Invariant s w → On s (view s (w .image)) (w .state) (w .ledger) × Ranged s a (length bytes)
-    go (up h q on) = (on, write-ok h q on i a bytes (passed (h .shape)) .1)
-    go (down h q o c) = absurd (off-refuses w h q o c i _ (passed (h .shape)))
+    go (up h q on) = (on, write-ok h q on who a bytes (passed (h .shape)) .1)
+    go (down h q o c) = absurd (off-refuses w h q o c (board-of s who) _ (passed (h .shape)))
 
 -- ---- the links that it leaves
 
@@ -65,17 +66,20 @@ touched-inside s b a n some (low, high) =
       eqb-same b,
     )
 
-module _ {s : Shape} {w : System} (inv : Invariant s w) {i j b a : ℕ} {bytes : List ℕ} {k : ℕ}
-    (o : Overwrite s w i j b a bytes k) (inside : Inside s b a (length bytes))
+module _ {s : Shape} {w : System} (inv : Invariant s w) {who : Requester} {j b a : ℕ} {bytes : List ℕ} {k : ℕ}
+    (o : Overwrite s w who j b a bytes k) (inside : Inside s b a (length bytes))
   where
+    abbrev i : ℕ
+    i = board-of s who
+
     abbrev n : ℕ
     n = length bytes
 
     abbrev after : System
-    after = next s w (Write i a bytes) k
+    after = next s w (Write who a bytes) k
 
     taken : On s (view s (w .image)) (w .state) (w .ledger) × Ranged s a n
-    taken = write-taken w i a bytes k (o .outcome) inv
+    taken = write-taken w who a bytes k (o .outcome) inv
 
     below : b < s .blocks
     below =
@@ -102,7 +106,7 @@ module _ {s : Shape} {w : System} (inv : Invariant s w) {i j b a : ℕ} {bytes :
     rolls : {d : Links} {Q : ℕ → Type 0} (c : ℕ) → after .ledger .links ≡ d → ((e : ℕ) → Chain d e c → Q e)
         → ((e : ℕ) → Q e → Chain d e c) → Rolls-back after c Q
     rolls c same to from m v =
-        let all = Invariant.step after (Invariant.step w inv (Write i a bytes) k .1) (Fault c) m .0 v .1 in
+        let all = Invariant.step after (Invariant.step w inv (Write who a bytes) k .1) (Fault c) m .0 v .1 in
         let along = subst (λ d. Exactly (answer after (Fault c) m .reply .answer .group) (λ e. Chain d e c)) same all in
         λ e. (λ h. to e (along e .0 h), λ q. along e .1 (from e q))
 
@@ -129,8 +133,9 @@ module _ (i j : ℕ) where
   begins-two a b h = ⊎-elim (λ q. inr (q .0)) (λ h. inl (begins-one a b h)) (link-cases (link unlinked i j) j i a b h)
 
 pub faults-after-overwrite : Faults-after-overwrite
-faults-after-overwrite s image r m v calls i j b a bytes k o inside =
-    let inv = invariant-at s image r m v calls in (
+faults-after-overwrite s image r m v calls who j b a bytes k o inside =
+    let inv = invariant-at s image r m v calls in
+    let i = board-of s who in (
       λ e.
           let same = linked-whole inv o inside e in
           let back = link-new unlinked j i in (
@@ -151,8 +156,8 @@ faults-after-overwrite s image r m v calls i j b a bytes k o inside =
     )
 
 pub single-cells : Single-cells
-single-cells s image r m v calls i j a bytes k one o =
-    let range = write-taken _ i a bytes k (o .outcome) (invariant-at s image r m v calls) .1 in
+single-cells s image r m v calls who j a bytes k one o =
+    let range = write-taken _ who a bytes k (o .outcome) (invariant-at s image r m v calls) .1 in
     let cell : a * s .size ≡ a = rw one (omega arith) in
     let inside : Inside s a a (length bytes) = (omega (arith, cell), omega (arith, cell, one, range)) in
-    faults-after-overwrite s image r m v calls i j a a bytes k o inside .0 (omega (arith, one, range))
+    faults-after-overwrite s image r m v calls who j a a bytes k o inside .0 (omega (arith, one, range))

@@ -10,18 +10,20 @@ use Rattle.boards.specs.Boards.{Exactly}
 use Rattle.volatile.specs.Volatile.{depends}
 use Rattle.volatile.specs.declared.Record.{Record}
 use Rattle.protocol.specs.Image.{Area, byte, base}
+use Rattle.protocol.specs.Accesses.{board-of}
 use Rattle.protocol.specs.Calls.{Write, Fault, format}
 use Rattle.protocol.specs.Ledger.{done}
 use Rattle.protocol.specs.Claim.{verdict, System, Call, answer, next, formatted, later}
 use Rattle.protocol.specs.declared.Shape.{Shape}
+use Rattle.protocol.specs.declared.Requester.{Requester}
 
--- Where no board depends on another, board i's write from cell a on, done with allowance k, and a block b that another
--- board j tagged.
-pub record Overwrite (s : Shape) (w : System) (i j b a : ℕ) (bytes : List ℕ) (k : ℕ) : Type 0 where
+-- Where no board depends on another, a write from cell a on by whoever makes it, done with allowance k, and a block b
+-- that another board j tagged.
+pub record Overwrite (s : Shape) (w : System) (who : Requester) (j b a : ℕ) (bytes : List ℕ) (k : ℕ) : Type 0 where
   pub no-links : (c d : ℕ) → depends (w .state) c d ≡ false
-  pub outcome : verdict (answer w (Write i a bytes) k) ≡ done
+  pub outcome : verdict (answer w (Write who a bytes) k) ≡ done
   pub tag : byte (w .image) (base s Area.Tags + b) ≡ suc j
-  pub other : i ≢ j
+  pub other : board-of s who ≢ j
 
 -- n cells from a on lie in block b
 abbrev pub Inside : Shape → ℕ → ℕ → ℕ → Type 0
@@ -45,10 +47,11 @@ Both-depend i j w = Rolls-back w j (λ c. (c ≡ i) ⊎ (c ≡ j)) × Rolls-back
 abbrev pub Faults-after-overwrite : Type 0
 Faults-after-overwrite =
     (s : Shape) (image : List ℕ) (r : Record) (m : ℕ) → verdict (format s image r m) ≡ done
-    → (calls : List Call) (i j b a : ℕ) (bytes : List ℕ) (k : ℕ)
+    → (calls : List Call) (who : Requester) (j b a : ℕ) (bytes : List ℕ) (k : ℕ)
     → let w = later s (formatted s image r m) calls in
-    let after = next s w (Write i a bytes) k in
-    Overwrite s w i j b a bytes k
+    let after = next s w (Write who a bytes) k in
+    let i = board-of s who in
+    Overwrite s w who j b a bytes k
     → Inside s b a (length bytes)
     → (length bytes ≡ s .size → Old-writer-depends i j after) × (length bytes < s .size → Both-depend i j after)
 
@@ -56,8 +59,8 @@ Faults-after-overwrite =
 abbrev pub Single-cells : Type 0
 Single-cells =
     (s : Shape) (image : List ℕ) (r : Record) (m : ℕ) → verdict (format s image r m) ≡ done
-    → (calls : List Call) (i j a : ℕ) (bytes : List ℕ) (k : ℕ)
+    → (calls : List Call) (who : Requester) (j a : ℕ) (bytes : List ℕ) (k : ℕ)
     → let w = later s (formatted s image r m) calls in
     s .size ≡ 1
-    → Overwrite s w i j a a bytes k
-    → Old-writer-depends i j (next s w (Write i a bytes) k)
+    → Overwrite s w who j a a bytes k
+    → Old-writer-depends (board-of s who) j (next s w (Write who a bytes) k)

@@ -21,4 +21,4 @@ pub mod Invariant
 pub mod Order
 pub mod Demand3
 pub mod Transactions
-pub mod Ports
+pub mod Port

@@ -20,8 +20,9 @@ use Rattle.volatile.specs.declared.Record.{Record}
 use Rattle.protocol.specs.declared.Answer.{Answer}
 use Rattle.protocol.specs.declared.Reply.{Reply}
 
--- What a call asks for, with all arguments but image, record and budget: boards and cells by number, of an access
--- who makes it; bytes; of a read's answer buffer its length, `room`. (Document 01 calls the papers that come later "requests"; not here.)
+-- What a call asks for, with all arguments but image, record and budget: boards and cells by number, bytes; of an
+-- access who makes it, of a read's answer buffer its length, `room`. (Document 01 calls the papers that come later
+-- "requests"; not here.)
 pub data Request : Type 0 where
   Read : (who : Requester) (cell n room : ℕ) → Request
   Write : (who : Requester) (cell : ℕ) (bytes : List ℕ) → Request
@@ -33,7 +34,7 @@ pub data Request : Type 0 where
 abbrev pub tags-of : Shape → Memory → ℕ → ℕ → List ℕ
 tags-of s m a n = map (m Tags) (touched s a n)
 
--- ---- refusals ("Refusals that come from the input", "Refusals that come from the state")
+-- ---- refusals ("Refusals that come from the input", "Refusals that come from the state"; 17: document 02, Req 03)
 
 -- a reason to refuse, with its number; the number of the first that holds, in the stated order; 0 for none
 pub record Test : Type 0 where
@@ -54,10 +55,10 @@ bad-range s a n =
     || (ltb (s .size) n
     || (ltb (cells s) (a + n) || not (eqb (a / s .size) ((a + n - 1) / s .size))))
 
--- the port makes no access of more than 4 cells
-unfoldable pub too-long : Requester → ℕ → Bool
-too-long (Board i) n = false
-too-long Port n = ltb 4 n
+-- the port asks for more than 4 cells; a board has no limit but S
+unfoldable pub over-port-limit : Requester → ℕ → Bool
+over-port-limit (Board i) n = false
+over-port-limit Port n = ltb 4 n
 
 -- the deciding group, low byte first
 unfoldable pub stored-group : Memory → ℕ
@@ -83,7 +84,7 @@ entry-tests image r i =
 unfoldable pub read-tests : Shape → Memory → Record → Requester → ℕ → ℕ → ℕ → List Test
 read-tests s m r who a n room =
     test (bad-range s a n) 2
-    ∷ test (too-long who n) 17
+    ∷ test (over-port-limit who n) 17
     ∷ test (ltb room n) 5
     ∷ test (anyOf (ltb (s .boards)) (tags-of s m a n)) 11
     ∷ test (has (engaged r) (board-of s who)) 13
@@ -93,7 +94,7 @@ unfoldable pub write-tests : Shape → Memory → Record → Requester → ℕ �
 write-tests s m r who a n =
     let tags = tags-of s m a n in
     test (bad-range s a n) 2
-    ∷ test (too-long who n) 17
+    ∷ test (over-port-limit who n) 17
     ∷ test (anyOf (ltb (s .boards)) tags) 11
     ∷ test (has (engaged r) (board-of s who) || anyOf (tagged-in (engaged r)) tags) 13
     ∷ []
@@ -118,7 +119,8 @@ power-tests image s m =
 
 unfoldable pub refusals : List ℕ → Shape → Memory → Record → Request → List Test
 refusals image s m r (Read who a n room) = entry-tests image r (board-of s who) ++ read-tests s m r who a n room
-refusals image s m r (Write who a bytes) = entry-tests image r (board-of s who) ++ write-tests s m r who a (length bytes)
+refusals image s m r (Write who a bytes) =
+    entry-tests image r (board-of s who) ++ write-tests s m r who a (length bytes)
 refusals image s m r (Start i context) = entry-tests image r i ++ start-tests s r (length context)
 refusals image s m r (Acknowledge i context) = entry-tests image r i ++ acknowledge-tests s r i (length context)
 refusals image s m r (Fault i) = entry-tests image r i

@@ -5,4 +5,4 @@ pub mod Ledger
 pub mod Dependences
 pub mod Claim
 pub mod Demand1
-pub mod Ports
+pub mod Port

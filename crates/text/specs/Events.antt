@@ -7,6 +7,7 @@ use lib.ListN.{length, getD, take}
 use Rattle.boards.specs.Lists.{any}
 use Rattle.protocol.specs.Calls.{Request, Read, Write, Start, Acknowledge, Fault, Power-up}
 use Rattle.protocol.specs.declared.Shape.{Shape}
+use Rattle.protocol.specs.declared.Requester.the-variants.{Board}
 use Rattle.text.specs.Fields.{codes, field, commas, number-of, pairs, decoded}
 use Rattle.text.specs.declared.Number.{Number}
 use Rattle.text.specs.declared.Number.the-variants.{Value, Invalid}
@@ -59,10 +60,10 @@ format-of s =
     Format (record { boards = p; size = size; blocks = b; context = k })))))
 
 unfoldable pub read-of : List ℕ → Event
-read-of s = number-at 1 s (λ i. number-at 2 s (λ a. number-at 3 s (λ n. Make (Read i a n room))))
+read-of s = number-at 1 s (λ i. number-at 2 s (λ a. number-at 3 s (λ n. Make (Read (Board i) a n room))))
 
 unfoldable pub write-of : List ℕ → Event
-write-of s = number-at 1 s (λ i. number-at 2 s (λ a. bytes-at 3 s (λ bytes. Make (Write i a bytes))))
+write-of s = number-at 1 s (λ i. number-at 2 s (λ a. bytes-at 3 s (λ bytes. Make (Write (Board i) a bytes))))
 
 unfoldable pub start-of : List ℕ → Event
 start-of s = number-at 1 s (λ i. bytes-at 2 s (λ bytes. Make (Start i bytes)))
@@ -93,8 +94,8 @@ taken s = let event = by-letter (getD s 0 0) s in cond (well-parted s) event Unr
 -- what the code's answer means, with the bytes in its buffer
 unfoldable pub meant : Parsed → List ℕ → Event
 meant (parsed.Format s) b = Format s
-meant (parsed.Read i a n) b = Make (Read i a n room)
-meant (parsed.Write i a n) b = Make (Write i a (take n b))
+meant (parsed.Read i a n) b = Make (Read (Board i) a n room)
+meant (parsed.Write i a n) b = Make (Write (Board i) a (take n b))
 meant (parsed.Start i n) b = Make (Start i (take n b))
 meant (parsed.Acknowledge i n) b = Make (Acknowledge i (take n b))
 meant (parsed.Fault i) b = Make (Fault i)

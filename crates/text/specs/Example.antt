@@ -11,12 +11,12 @@ use Rattle.protocol.specs.Image.{allowed, size, base, total, mark, exponent, ex
 use Rattle.protocol.specs.Image.{view, made, raw, rank, change, after}
 use Rattle.volatile.specs.Volatile.{closed, fresh, off, depends, engaged, commit-of, left-open, depend, clear, opened}
 use Rattle.volatile.specs.Volatile.{acknowledge, bad-row, bad-rows, bad-open, bad-closed, bad-commit, bad-record}
-use Rattle.protocol.specs.Accesses.{touched, read-binding, write-binding, bind-boards, bind-tag, bind-blocks}
+use Rattle.protocol.specs.Accesses.{board-of, touched, read-binding, write-binding, bind-boards, bind-tag, bind-blocks}
 use Rattle.protocol.specs.Calls.{first, bad-range, stored-group, bad-tags, bad-decision, entry-tests, read-tests}
 use Rattle.protocol.specs.Calls.{write-tests, start-tests, acknowledge-tests, power-tests, refusals, placing, tagging}
 use Rattle.protocol.specs.Calls.{copying, block-copied, blocks-copied, context-saved, completing, deciding}
 use Rattle.protocol.specs.Calls.{completed-first, recovering, acknowledging, plan, refused, decides, executed}
-use Rattle.protocol.specs.Calls.{record-refused, perform, format-tests, formatting, format}
+use Rattle.protocol.specs.Calls.{over-port-limit, record-refused, perform, format-tests, formatting, format}
 use Rattle.text.specs.Fields.{line-feed, codes, until, past, commas, field, number-from, number-of, digit, pairs}
 use Rattle.text.specs.Fields.{decoded}
 use Rattle.text.specs.Events.{letters, due, listed, well-parted, with-number, with-bytes, format-of, read-of}
@@ -65,8 +65,8 @@ pub eleven-answers : output (text input) ≡ text answers
 unfolding text input answers for span every any anyOf has mask beyond tagged-in tagged link unlink pass passes
     commit-group fault-group links-of rows-of emptied allowed size base total mark exponent exponent-from header
     shape-of in-order view made raw rank change after closed fresh off depends engaged commit-of left-open
-    depend clear opened acknowledge bad-row bad-rows bad-open bad-closed bad-commit bad-record touched
-    read-binding write-binding bind-boards bind-tag bind-blocks first bad-range stored-group bad-tags
+    depend clear opened acknowledge bad-row bad-rows bad-open bad-closed bad-commit bad-record board-of touched
+    read-binding write-binding bind-boards bind-tag bind-blocks first bad-range over-port-limit stored-group bad-tags
     bad-decision entry-tests read-tests write-tests start-tests acknowledge-tests power-tests refusals placing
     tagging copying block-copied blocks-copied context-saved completing deciding completed-first recovering
     acknowledging plan refused decides executed record-refused perform format-tests formatting format codes

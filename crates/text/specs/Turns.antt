@@ -56,8 +56,8 @@ told letter status next =
 
 -- the codes of R, W, C, A, X, U
 unfoldable pub letter-of : Request → ℕ
-letter-of (Read board cell n room) = 82
-letter-of (Write board cell bytes) = 87
+letter-of (Read who cell n room) = 82
+letter-of (Write who cell bytes) = 87
 letter-of (Start board context) = 67
 letter-of (Acknowledge board context) = 65
 letter-of (Fault board) = 88

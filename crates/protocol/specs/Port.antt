@@ -1,0 +1,44 @@
+-- An access by the port beside the same access by board P − 1 (document 02, Req 03), for any image, record, arguments
+-- and budget.
+use Prim.Native.Nat.{ℕ, _-_}
+use mathlib.Core.Path.{_≡_}
+use mathlib.Core.Bool.{Bool, _&&_, cond}
+use mathlib.Core.List.{List, [], _∷_, _++_}
+use mathlib.Core.Logic.{_≢_}
+use lib.Dec.{eqb, ltb}
+use lib.ListN.{length}
+use Rattle.protocol.specs.Image.{shape-of}
+use Rattle.protocol.specs.Calls.{Request, Read, Write, test, first, entry-tests, bad-range, refused, perform}
+use Rattle.protocol.specs.Ledger.{Verdict, Ledger, update}
+use Rattle.protocol.specs.declared.Shape.{Shape}
+use Rattle.protocol.specs.declared.Requester.{Requester}
+use Rattle.protocol.specs.declared.Requester.the-variants.{Board, Port}
+use Rattle.volatile.specs.declared.Record.{Record}
+
+-- P − 1, on purpose not by `board-of`
+abbrev pub last-board : Shape → ℕ
+last-board s = s .boards - 1
+
+-- whether board i's access of n cells from a on passes 11 for the header, 12, 1 and 2, which come before 17
+abbrev pub passes-to-17 : List ℕ → Record → ℕ → ℕ → ℕ → Bool
+passes-to-17 image r i a n = eqb (first (entry-tests image r i ++ test (bad-range (shape-of image) a n) 2 ∷ [])) 0
+
+-- A read or a write of n cells from a on, as a function `by` of who makes it.
+pub record As-last-board (a n : ℕ) (by : Requester → Request) (image : List ℕ) (r : Record) (k : ℕ) : Type 0 where
+  -- The port is refused 17 if board P − 1 passes to 17 and n is above 4, and changes nothing then. Else its access is in
+  -- everything that of board P − 1.
+  pub port : perform image r (by Port) k
+      ≡ cond (passes-to-17 image r (last-board (shape-of image)) a n && ltb 4 n) (refused 17 image r)
+      (perform image r (by (Board (last-board (shape-of image)))) k)
+  -- no board is refused 17, so that is exactly when the port is; the port is never refused 1
+  pub boards : (i : ℕ) → perform image r (by (Board i)) k .reply .answer .status ≢ 17
+  pub no-bad-board : perform image r (by Port) k .reply .answer .status ≢ 1
+  -- and the ledger takes it for one of board P − 1
+  pub ledger : (s : Shape) (v : Verdict) (l : Ledger)
+      → update s (by Port) k v l ≡ update s (by (Board (last-board s))) k v l
+
+pub record Port-as-last-board : Type 0 where
+  pub reads : (a n room : ℕ) (image : List ℕ) (r : Record) (k : ℕ)
+      → As-last-board a n (λ who. Read who a n room) image r k
+  pub writes : (a : ℕ) (bytes image : List ℕ) (r : Record) (k : ℕ)
+      → As-last-board a (length bytes) (λ who. Write who a bytes) image r k
