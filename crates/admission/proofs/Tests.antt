@@ -11,9 +11,11 @@ use Rattle.boards.specs.Lists.{anyOf}
 use Rattle.boards.specs.Boards.{has, tagged-in}
 use Rattle.protocol.specs.Image.{Tags, allowed, cells, shape-of, view}
 use Rattle.volatile.specs.Volatile.{engaged}
+use Rattle.protocol.specs.Accesses.{board-of}
 use Rattle.protocol.specs.Calls.{Read, Write, Test, test, first, refusals, refusal-at, bad-range, tags-of}
-use Rattle.protocol.specs.Calls.{entry-tests, read-tests, write-tests}
+use Rattle.protocol.specs.Calls.{entry-tests, read-tests, write-tests, over-port-limit}
 use Rattle.protocol.specs.declared.Shape.{Shape}
+use Rattle.protocol.specs.declared.Requester.{Requester}
 use Rattle.volatile.specs.declared.Record.{Record}
 use Rattle.protocol.proofs.Refusals.{entry-goes-on, first-goes-on}
 use Rattle.protocol.proofs.Safety.{block-below}
@@ -31,16 +33,18 @@ pub block-of : (s : Shape) (a : ℕ) → allowed s ≡ true → a < cells s → 
 block-of s a h l = let b = bounded h in block-below s a (omega arith) l
 
 -- an access that is taken
-pub placed : {image : List ℕ} {r : Record} {i n room : ℕ} {s : Shape} {p : Place} (a : ℕ) → p ≡ place-at s image a
-    → Entry-passed image r i s → bad-range s a n ≡ false → n ≤ room → p .tag ≤ s .boards → Placed image r i a n room p
-placed {image} {r} {i} {n} {room} {p = p} a e entry ok fits l =
+pub placed : {image : List ℕ} {r : Record} {who : Requester} {i n room : ℕ} {s : Shape} {p : Place} (a : ℕ)
+    → i ≡ board-of s who → p ≡ place-at s image i a → Entry-passed image r (board-of (shape-of image) who) s
+    → bad-range s a n ≡ false → n ≤ room → p .tag ≤ s .boards → Placed image r who a n room p
+placed {image} {r} {who} {i} {n} {room} {p = p} a q e entry ok fits l =
     subst
-    (λ s. p ≡ place-at s image a → Entry-passed image r i s → bad-range s a n ≡ false → p .tag ≤ s .boards
-    → Placed image r i a n room p)
+    (λ s. i ≡ board-of s who → p ≡ place-at s image i a → Entry-passed image r (board-of (shape-of image) who) s
+    → bad-range s a n ≡ false → p .tag ≤ s .boards → Placed image r who a n room p)
     (entry .shaped .shape)
-    (λ e entry ok l.
+    (λ q e entry ok l.
     record {
       entry = entry;
+      board = ap (λ (p : Place). p .board) e ∙ q;
       range = ok;
       fits = fits;
       begins = ap (λ (p : Place). p .at) e;
@@ -49,7 +53,7 @@ placed {image} {r} {i} {n} {room} {p = p} a e entry ok fits l =
       block-size = ap (λ (p : Place). p .size) e;
       tag-known = l;
     })
-    e entry ok l
+    q e entry ok l
 
 -- tests that answered Taken
 pub if-admitted : {n : ℕ} {Known : Place → Type 0} {e : Admission} {p : Place} → Tested n Known (admission-says e)
@@ -58,48 +62,56 @@ if-admitted t q = if-passed t (ap admission-says q)
 
 -- ---- the tests of a read, once the first tests are passed
 
-module _ {image : List ℕ} {r : Record} {i : ℕ} {s : Shape} (a n room : ℕ)
-    (known : (first (entry-tests image r i) ≡ 0) × Entry-passed image r i s)
+module _ {image : List ℕ} {r : Record} {s : Shape} (who : Requester) (a n room : ℕ)
+    (known : let i = board-of (shape-of image) who in
+    (first (entry-tests image r i) ≡ 0) × Entry-passed image r i s)
   where
-    own : refusal-at image r (Read i a n room) ≡ first (read-tests s (view s image) r i a n room)
+    own : refusal-at image r (Read who a n room) ≡ first (read-tests s (view s image) r who a n room)
     unfolding refusals
     own =
-        entry-goes-on image r i _ (known .0)
-        ∙ ap (λ t. first (read-tests t (view t image) r i a n room)) (known .1 .shaped .shape)
+        entry-goes-on image r (board-of (shape-of image) who) _ (known .0)
+        ∙ ap (λ t. first (read-tests t (view t image) r who a n room)) (known .1 .shaped .shape)
 
-    pub read-two : bad-range s a n ≡ true → refusal-at image r (Read i a n room) ≡ 2
+    pub read-two : bad-range s a n ≡ true → refusal-at image r (Read who a n room) ≡ 2
     unfolding read-tests first
     read-two h = own ∙ rw h
 
-    module _ (ok : bad-range s a n ≡ false) where
-      pub read-five : room < n → refusal-at image r (Read i a n room) ≡ 5
-      unfolding read-tests first
-      read-five l = own ∙ rw (ok, lt-ltb room n l)
+    pub read-seventeen : bad-range s a n ≡ false → over-port-limit who n ≡ true
+        → refusal-at image r (Read who a n room) ≡ 17
+    unfolding read-tests first
+    read-seventeen ok h = own ∙ rw (ok, h)
 
-      module _ (fits : n ≤ room) {p : Place} (at : p ≡ place-at s image a) where
+    module _ (ok : bad-range s a n ≡ false) (short : over-port-limit who n ≡ false) where
+      pub read-five : room < n → refusal-at image r (Read who a n room) ≡ 5
+      unfolding read-tests first
+      read-five l = own ∙ rw (ok, short, lt-ltb room n l)
+
+      module _ (fits : n ≤ room) {i : ℕ} {p : Place} (at : p ≡ place-at s image i a) where
         abbrev place-tag : view s image Tags (a / s .size) ≡ p .tag
         place-tag = sym (ap (λ (p : Place). p .tag) at)
 
-        pub read-eleven : s .boards < p .tag → refusal-at image r (Read i a n room) ≡ 11
+        pub read-eleven : s .boards < p .tag → refusal-at image r (Read who a n room) ≡ 11
         unfolding read-tests first
         read-eleven l =
             own
             ∙ rw (
               any-one s (view s image) a n ok (ltb (s .boards)),
               ok,
+              short,
               le-ltb room n fits,
               place-tag,
               lt-ltb (s .boards) (p .tag) l,
             )
 
         module _ (fine : p .tag ≤ s .boards) where
-          pub read-last : refusal-at image r (Read i a n room) ≡ first (test (has (engaged r) i) 13 ∷ [])
+          pub read-last : refusal-at image r (Read who a n room) ≡ first (test (has (engaged r) (board-of s who)) 13 ∷ [])
           unfolding read-tests first
           read-last =
               own
               ∙ rw (
                 any-one s (view s image) a n ok (ltb (s .boards)),
                 ok,
+                short,
                 le-ltb room n fits,
                 place-tag,
                 le-ltb (s .boards) (p .tag) fine,
@@ -111,20 +123,20 @@ both : (b c : Bool) → _≡_ {A = ℕ} (cond (b || c) 13 0) (cond b 13 (cond c 
 both true c = refl
 both false c = refl
 
-module _ (image : List ℕ) (r : Record) (i a : ℕ) (bytes : List ℕ) where
+module _ (image : List ℕ) (r : Record) (who : Requester) (a : ℕ) (bytes : List ℕ) where
   abbrev pub as-read : List Test
-  as-read = refusals image (shape-of image) (view (shape-of image) image) r (Read i a (length bytes) (length bytes))
+  as-read = refusals image (shape-of image) (view (shape-of image) image) r (Read who a (length bytes) (length bytes))
 
   abbrev tagged-test : Test
   tagged-test = let s = shape-of image in
       test (anyOf (tagged-in (engaged r)) (tags-of s (view s image) a (length bytes))) 13
 
-  pub write-tests-as : refusal-at image r (Write i a bytes) ≡ first (as-read ++ tagged-test ∷ [])
+  pub write-tests-as : refusal-at image r (Write who a bytes) ≡ first (as-read ++ tagged-test ∷ [])
   unfolding refusals entry-tests read-tests write-tests first
   write-tests-as = rw (le-ltb (length bytes) (length bytes) (omega arith), both)
 
-  pub write-last : {p : Place} → first as-read ≡ 0 → Placed image r i a (length bytes) (length bytes) p
-      → refusal-at image r (Write i a bytes) ≡ first (test (tagged-in (engaged r) (p .tag)) 13 ∷ [])
+  pub write-last : {p : Place} → first as-read ≡ 0 → Placed image r who a (length bytes) (length bytes) p
+      → refusal-at image r (Write who a bytes) ≡ first (test (tagged-in (engaged r) (p .tag)) 13 ∷ [])
   unfolding refusals entry-tests read-tests anyOf
   write-last {p} z k =
       let s = shape-of image in

@@ -2,9 +2,11 @@
 use boards::sets::has;
 use boards::sets::tagged_in;
 use entry::Entry;
-use entry::enter;
+use entry::board_of;
+use entry::enter_by;
 use layout::TAGS;
 use layout::current_at;
+use protocol::Requester;
 use protocol::Shape;
 use volatile::Record;
 ghost use mathlib.Core.Path.{_≡_};
@@ -12,12 +14,16 @@ ghost use mathlib.Core.Bool.{true};
 ghost use Prim.Native.Nat.{_*_, _<_};
 ghost use lib.ListN.{length};
 ghost use Rattle.protocol.specs.Image.{allowed, total};
-ghost use Rattle.protocol.specs.Calls.{Read, Write, refusal-at, bad-range};
+ghost use Rattle.protocol.specs.Calls.{Read, Write, refusal-at, bad-range, over-port-limit};
 ghost use Rattle.entry.specs.Tested.{refusal-number, Tested};
 ghost use Rattle.admission.specs.Places.{place-at, admission-says, Placed};
 
-// Where an access begins in the image; its block, that block's tag and size.
+// The most cells of an access by the port.
+const PORT_LIMIT: usize = 4;
+
+// The board whose access it is; where it begins in the image; its block, that block's tag and size.
 pub struct Place {
+    pub board: u8,
     pub at: usize,
     pub block: usize,
     pub tag: u8,
@@ -64,15 +70,26 @@ fn bad_range(s: Shape, cell: usize, n: usize) -> bool
     cell / size != (cell + n - 1) / size
 }
 
-// Where an access that begins at a cell lies.
-fn locate(image: &[u8], s: Shape, cell: usize) -> Place
+// 17: the port asks for more cells than its limit.
+fn over_port_limit(who: Requester, n: usize) -> bool
+    ensures { λ r. ⌜ r ≡ over-port-limit who n ⌝ }
+{
+    match who {
+        Requester::Board(_) => false,
+        Requester::Port => n > PORT_LIMIT,
+    }
+}
+
+// Where a board's access that begins at a cell lies.
+fn locate(image: &[u8], s: Shape, board: u8, cell: usize) -> Place
     requires { ⌜ (allowed s ≡ true) × (length (now image) ≡ total s) × (cell < s .blocks * s .size) ⌝ }
-    ensures { λ r. ⌜ r ≡ place-at s (now (image .entry)) cell ⌝ }
+    ensures { λ r. ⌜ r ≡ place-at s (now (image .entry)) board cell ⌝ }
 {
     let block = cell / s.size;
     let tag = image[TAGS + block];
     let at = current_at(s) + cell;
     Place {
+        board,
         at,
         block,
         tag,
@@ -80,34 +97,38 @@ fn locate(image: &[u8], s: Shape, cell: usize) -> Place
     }
 }
 
-// A read: the first tests of a board's call, then 2, 5, 11 for the block's tag, 13.
+// A read: the first tests of a board's call, then 2, 17, 5, 11 for the block's tag, 13.
 pub fn admit(
     image: &[u8],
     state: Record,
-    board: usize,
+    who: Requester,
     cell: usize,
     n: usize,
     room: usize,
 ) -> Admission
-    ensures { λ r. ⌜ Tested (refusal-at (now (image .entry)) state (Read board cell n room))
-        (Placed (now (image .entry)) state board cell n room) (admission-says r) ⌝ }
+    ensures { λ r. ⌜ Tested (refusal-at (now (image .entry)) state (Read who cell n room))
+        (Placed (now (image .entry)) state who cell n room) (admission-says r) ⌝ }
 {
-    let entry = enter(image, state, board);
+    let entry = enter_by(image, state, who);
     let Entry::Taken(s) = entry else {
         return Admission::Refused(entry.number());
     };
     if bad_range(s, cell, n) {
         return Admission::Refused(2);
     }
+    if over_port_limit(who, n) {
+        return Admission::Refused(17);
+    }
     if n > room {
         return Admission::Refused(5);
     }
-    let p = locate(image, s, cell);
+    let board = board_of(s, who) as u8;
+    let p = locate(image, s, board, cell);
     if p.tag as usize > s.boards {
         return Admission::Refused(11);
     }
     let members = state.engaged();
-    if has(members, board as u8) {
+    if has(members, board) {
         return Admission::Refused(13);
     }
     Admission::Taken(p)
@@ -117,16 +138,16 @@ pub fn admit(
 pub fn admit_write(
     image: &[u8],
     state: Record,
-    board: usize,
+    who: Requester,
     cell: usize,
     bytes: &[u8],
 ) -> Admission
-    ensures { λ r. ⌜ Tested (refusal-at (now (image .entry)) state (Write board cell (now (bytes .entry))))
-        (Placed (now (image .entry)) state board cell (length (now (bytes .entry)))
+    ensures { λ r. ⌜ Tested (refusal-at (now (image .entry)) state (Write who cell (now (bytes .entry))))
+        (Placed (now (image .entry)) state who cell (length (now (bytes .entry)))
         (length (now (bytes .entry)))) (admission-says r) ⌝ }
 {
     let n = bytes.len();
-    let admission = admit(image, state, board, cell, n, n);
+    let admission = admit(image, state, who, cell, n, n);
     let Admission::Taken(p) = admission else {
         return admission;
     };

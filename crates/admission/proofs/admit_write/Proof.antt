@@ -28,9 +28,9 @@ last : (c : tie.After-tagged-in) →
     let opened = c .before .before .before in
     let args = opened .before .before .before .before .before .args in
     let n = length (now (args .bytes)) in
-    (refusal-at (now (args .image)) (args .state) (Write (args .board) (args .cell) (now (args .bytes)))
+    (refusal-at (now (args .image)) (args .state) (Write (args .who) (args .cell) (now (args .bytes)))
     ≡ first (test (c .tagged-in .result) 13 ∷ []))
-    × Placed (now (args .image)) (args .state) (args .board) (args .cell) n n (opened .admission .given .0 .0)
+    × Placed (now (args .image)) (args .state) (args .who) (args .cell) n n (opened .admission .given .0 .0)
 last c =
     let opened = c .before .before .before in
     let tested = opened .before .before in
