@@ -1,6 +1,6 @@
 -- A read and a write that are taken, and a read that is refused.
 use Prim.Native.Nat.{ℕ, suc, _+_, _/_, _≤_, _<_}
-use mathlib.Core.Path.{_≡_, refl, sym, _∙_, ap, ap₂, subst⁻¹}
+use mathlib.Core.Path.{_≡_, refl, sym, _∙_, ap, ap₂, subst, subst⁻¹}
 use mathlib.Core.Bool.{Bool, true, false, cond}
 use mathlib.Core.List.{List, [], _∷_, _++_, map, map-append}
 use mathlib.Core.Logic.{_≢_}
@@ -12,7 +12,7 @@ use native.Mathlib.Numerals.{add-one}
 use native.Mathlib.Omega.{arith}
 use borrow.Author.Tests.{le-ltb}
 use Rattle.boards.specs.Lists.{span, anyOf}
-use Rattle.protocol.specs.Accesses.{touched, read-binding, write-binding, bind-tag}
+use Rattle.protocol.specs.Accesses.{board-of, touched, read-binding, write-binding, bind-tag}
 use Rattle.protocol.specs.declared.Binding.{Binding}
 use Rattle.protocol.specs.declared.Binding.the-variants.{OneWay}
 use Rattle.protocol.specs.Image.{Current, Tags, Store, Put, raw, size, base, total, shape-of, view}
@@ -20,6 +20,7 @@ use Rattle.volatile.specs.Volatile.{depend}
 use Rattle.protocol.specs.Calls.{Read, Write, refusal-at, refusal-of, tagging, placing, plan, refused, record-refused}
 use Rattle.protocol.specs.Calls.{executed, filled}
 use Rattle.protocol.specs.declared.Shape.{Shape}
+use Rattle.protocol.specs.declared.Requester.{Requester}
 use Rattle.volatile.specs.declared.Record.{Record}
 use Rattle.protocol.specs.declared.Reply.{Reply}
 use Rattle.boards.proofs.Basics.{length-span, span-same}
@@ -34,6 +35,7 @@ use Rattle.store.proofs.Laws.{makes-none}
 use Rattle.store.proofs.Areas.{placing-stores}
 use Rattle.store.proofs.Ends.{ended, turned}
 use Rattle.layout.proofs.Laws.{bounded}
+use Rattle.entry.proofs.Laws.{small}
 use Rattle.admission.specs.declared.Place.{Place}
 use Rattle.admission.specs.Places.{Placed}
 use Rattle.admission.proofs.Touched.{touched-one, whole-one, bind-one}
@@ -42,11 +44,13 @@ use Rattle.access.specs.Leaves.{filled-from, tag-store, binding-of}
 
 -- the place of an access in the image
 pub record Within (image : List ℕ) (n : ℕ) (p : Place) : Type 0 where
+  pub board : p .board < 16
   pub tag : p .tag ≤ 16
   pub block : 12 + p .block < length image
   pub cells : p .at + n ≤ length image
 
-pub within : {image : List ℕ} {r : Record} {i a n room : ℕ} {p : Place} → Placed image r i a n room p → Within image n p
+pub within : {image : List ℕ} {r : Record} {who : Requester} {a n room : ℕ} {p : Place} → Placed image r who a n room p
+    → Within image n p
 unfolding base total
 within {image} {a = a} {n = n} k =
     let s = shape-of image in
@@ -55,6 +59,7 @@ within {image} {a = a} {n = n} k =
     let block = block-of s a (shaped .allowed-shape) (omega (arith, area)) in
     let size = bounded (shaped .allowed-shape) in
     record {
+      board = subst (λ i. i < 16) (sym (k .board)) (small (k .entry));
       tag = omega (arith, k .tag-known, size);
       block = omega (arith, shaped .long, k .block);
       cells = omega (arith, shaped .long, k .begins, area);
@@ -75,12 +80,12 @@ none-spent : (b : ℕ) (next : Record) → reply-of 0 (start 0) false 0 next ≡
 unfolding reply-of
 none-spent b next = rw (← sub-self b)
 
-module _ {image : List ℕ} {r : Record} (i a n : ℕ) (buffer : List ℕ) where
-  pub read-refused : (room : ℕ) {k : ℕ} {reply : Reply} → (refusal-at image r (Read i a n room) ≡ k) × (k ≢ 0)
-      → reply ≡ refusal-of k r → Answered (Read i a n room) image r buffer reply buffer
+module _ {image : List ℕ} {r : Record} (who : Requester) (a n : ℕ) (buffer : List ℕ) where
+  pub read-refused : (room : ℕ) {k : ℕ} {reply : Reply} → (refusal-at image r (Read who a n room) ≡ k) × (k ≢ 0)
+      → reply ≡ refusal-of k r → Answered (Read who a n room) image r buffer reply buffer
   unfolding refused record-refused filled
   read-refused room h f =
-      let request = Read i a n room in
+      let request = Read who a n room in
       record {
         reply = λ b. turned r request {k = b} (h .0) (h .1) refl f .reply;
         buffer = λ b.
@@ -88,23 +93,23 @@ module _ {image : List ℕ} {r : Record} (i a n : ℕ) (buffer : List ℕ) where
       }
 
   pub read-done : (room : ℕ) {p : Place} {b : Budget} {next : Record} {reply : Reply} {after : List ℕ}
-      → (refusal-at image r (Read i a n room) ≡ 0) × Placed image r i a n room p
-      → next ≡ bind-tag depend OneWay r i (p .tag) → after ≡ filled-from image (p .at) n buffer → b ≡ start 0
-      → reply ≡ reply-of 0 b false 0 next → Answered (Read i a n room) image r buffer reply after
+      → (refusal-at image r (Read who a n room) ≡ 0) × Placed image r who a n room p
+      → next ≡ bind-tag depend OneWay r (p .board) (p .tag) → after ≡ filled-from image (p .at) n buffer → b ≡ start 0
+      → reply ≡ reply-of 0 b false 0 next → Answered (Read who a n room) image r buffer reply after
   unfolding executed plan anyOf size read-binding
   read-done room {p} {next = next} known q f new g =
       let s = shape-of image in
       let k = known .1 in
-      let bound = q ∙ ap (bind-tag depend OneWay r i) (k .tag)
-      ∙ sym (bind-one s (view s image) a n (k .range) read-binding r i) in
+      let bound = q ∙ ap₂ (bind-tag depend OneWay r) (k .board) (k .tag)
+      ∙ sym (bind-one s (view s image) a n (k .range) read-binding r (board-of s who)) in
       let whole = g ∙ ap (λ b. reply-of 0 b false 0 next) new in
       let bytes = filled-current s image buffer (p .at) a n (k .begins) (ranged s a n (k .range) .within) in
       record {
         reply = λ b.
-            ended r (Read i a n room) refl (known .0) refl (makes-none (start b) image) (rw take-nil) refl bound
+            ended r (Read who a n room) refl (known .0) refl (makes-none (start b) image) (rw take-nil) refl bound
             (whole ∙ none-spent b next) .reply;
         buffer = λ b.
-            let o = ap (λ o. filled (o .bytes) buffer) (taken image refl r (Read i a n room) (known .0) b) in
+            let o = ap (λ o. filled (o .bytes) buffer) (taken image refl r (Read who a n room) (known .0) b) in
             f ∙ bytes ∙ sym (rw (le-ltb b 0 (omega arith)) at o);
       }
 
@@ -115,12 +120,15 @@ one-tag : (f : Put → Store) (b : Bool) (t : Put) → map f (cond b [] (t ∷ [
 one-tag f true t = refl
 one-tag f false t = refl
 
-module _ {image : List ℕ} {r : Record} (i a : ℕ) (bytes : List ℕ) {p : Place} {room : ℕ}
-    (k : Placed image r i a (length bytes) room p)
+module _ {image : List ℕ} {r : Record} (who : Requester) (a : ℕ) (bytes : List ℕ) {p : Place} {room : ℕ}
+    (k : Placed image r who a (length bytes) room p)
   where
+    abbrev i : ℕ
+    i = board-of (shape-of image) who
+
     -- the stores of a write's plan, as the code makes them
     tag-stored : let s = shape-of image in
-        map (raw s) (tagging (view s image) i (touched s a (length bytes))) ≡ tag-store p i
+        map (raw s) (tagging (view s image) i (touched s a (length bytes))) ≡ tag-store p (p .board)
     unfolding tagging tag-store raw base
     tag-stored =
         let s = shape-of image in
@@ -129,11 +137,13 @@ module _ {image : List ℕ} {r : Record} (i a : ℕ) (bytes : List ℕ) {p : Pla
           one-tag (raw s) (eqb (view s image Tags (a / s .size)) (suc i)) _,
           k .tag,
           k .block,
+          k .board,
           add-one,
         )
 
     write-stores : let s = shape-of image in
-        map (raw s) (plan s (view s image) r (Write i a bytes) .stores) ≡ tag-store p i ++ put-stores (p .at) bytes
+        map (raw s) (plan s (view s image) r (Write who a bytes) .stores)
+        ≡ tag-store p (p .board) ++ put-stores (p .at) bytes
     unfolding plan
     write-stores =
         let s = shape-of image in
@@ -149,18 +159,19 @@ module _ {image : List ℕ} {r : Record} (i a : ℕ) (bytes : List ℕ) {p : Pla
         rw (k .block-size, whole-one s a (length bytes) some (k .range))
 
     pub write-done : {m : ℕ} {b left : Budget} {how : Binding} {next : Record} {reply : Reply} {after : List ℕ}
-        → refusal-at image r (Write i a bytes) ≡ 0 → how ≡ binding-of p (length bytes)
-        → next ≡ bind-tag depend how r i (p .tag) → b ≡ start m
-        → Makes (tag-store p i ++ put-stores (p .at) bytes) b image left after
-        → reply ≡ reply-of m left false 0 next → Performed (Write i a bytes) m image r reply after
+        → refusal-at image r (Write who a bytes) ≡ 0 → how ≡ binding-of p (length bytes)
+        → next ≡ bind-tag depend how r (p .board) (p .tag) → b ≡ start m
+        → Makes (tag-store p (p .board) ++ put-stores (p .at) bytes) b image left after
+        → reply ≡ reply-of m left false 0 next → Performed (Write who a bytes) m image r reply after
     unfolding plan
-    write-done {m} {b} {left} {after = after} z e q new h g =
+    write-done {m} {b} {left} {how} {after = after} z e q new h g =
         let s = shape-of image in
         let n = length bytes in
         let shaped = k .entry .shaped in
-        let bound = q ∙ ap₂ (λ how t. bind-tag depend how r i t) (e ∙ bound-as) (k .tag)
+        let bound = q ∙ ap (λ i. bind-tag depend how r i (p .tag)) (k .board)
+        ∙ ap₂ (λ how t. bind-tag depend how r i t) (e ∙ bound-as) (k .tag)
         ∙ sym (bind-one s (view s image) a n (k .range) (write-binding s a n) r i) in
         let some = bounded (shaped .allowed-shape) .limits .some-size in
         let inside = write-inside s (view s image) i a bytes some (ranged s a n (k .range)) in
-        ended r (Write i a bytes) refl z new (subst⁻¹ (λ ss. Makes ss b image left after) write-stores h)
+        ended r (Write who a bytes) refl z new (subst⁻¹ (λ ss. Makes ss b image left after) write-stores h)
         (inside-quiet s m inside) refl bound g

@@ -1,4 +1,4 @@
-// Reads and writes.
+// Reads and writes, by a board and by the port.
 use admission::Admission;
 use admission::Place;
 use admission::admit;
@@ -8,6 +8,7 @@ use boards::sets::writer_of;
 use layout::TAGS;
 use protocol::Binding;
 use protocol::Reply;
+use protocol::Requester;
 use store::Budget;
 use store::answers::finish;
 use store::answers::refusal;
@@ -21,6 +22,7 @@ ghost use lib.ListN.{length};
 ghost use Rattle.volatile.specs.Volatile.{depend};
 ghost use Rattle.protocol.specs.Accesses.{bind-tag};
 ghost use Rattle.protocol.specs.Calls.{Read, Write};
+ghost use Rattle.protocol.specs.declared.Requester.the-variants.{Board, Port};
 ghost use Rattle.layout.specs.Headers.{tags-at};
 ghost use Rattle.store.specs.Budget.{Makes};
 ghost use Rattle.store.specs.Runs.{put-stores};
@@ -57,7 +59,30 @@ fn fill(image: &[u8], at: usize, n: usize, buffer: &mut [u8])
     }
 }
 
-// The first n bytes of the buffer become the current bytes from the cell on; the board comes to depend on their writer.
+// The first n bytes of the buffer become the current bytes from the cell on; the requester's board comes to depend on
+// their writer.
+fn read_by(
+    image: &[u8],
+    state: Record,
+    who: Requester,
+    cell: usize,
+    n: usize,
+    buffer: &mut [u8],
+) -> Reply
+    ensures { λ r. ⌜ Answered (Read who cell n (length (now (buffer .entry)))) (now (image .entry)) state
+        (now (buffer .entry)) r (now (buffer .exit)) ⌝ }
+{
+    let admission = admit(image, state, who, cell, n, buffer.len());
+    let Admission::Taken(p) = admission else {
+        return refusal(admission.number(), state);
+    };
+    let next = bind(state, Binding::OneWay, p.board, p.tag);
+    fill(image, p.at, n, buffer);
+    let none = Budget::new(0);
+    finish(0, none, false, 0, next)
+}
+
+// A read by a board.
 pub fn read(
     image: &[u8],
     state: Record,
@@ -66,17 +91,24 @@ pub fn read(
     n: usize,
     buffer: &mut [u8],
 ) -> Reply
-    ensures { λ r. ⌜ Answered (Read board cell n (length (now (buffer .entry)))) (now (image .entry)) state
+    ensures { λ r. ⌜ Answered (Read (Board board) cell n (length (now (buffer .entry)))) (now (image .entry)) state
         (now (buffer .entry)) r (now (buffer .exit)) ⌝ }
 {
-    let admission = admit(image, state, board, cell, n, buffer.len());
-    let Admission::Taken(p) = admission else {
-        return refusal(admission.number(), state);
-    };
-    let next = bind(state, Binding::OneWay, board as u8, p.tag);
-    fill(image, p.at, n, buffer);
-    let none = Budget::new(0);
-    finish(0, none, false, 0, next)
+    read_by(image, state, Requester::Board(board), cell, n, buffer)
+}
+
+// A read by the port: at most 4 cells, as board P - 1.
+pub fn port_read(
+    image: &[u8],
+    state: Record,
+    cell: usize,
+    n: usize,
+    buffer: &mut [u8],
+) -> Reply
+    ensures { λ r. ⌜ Answered (Read Port cell n (length (now (buffer .entry)))) (now (image .entry)) state
+        (now (buffer .entry)) r (now (buffer .exit)) ⌝ }
+{
+    read_by(image, state, Requester::Port, cell, n, buffer)
 }
 
 // The tag of the block, if it is not the writer's.
@@ -112,8 +144,32 @@ fn binding_of(p: Place, n: usize) -> Binding
     Binding::TwoWay
 }
 
-// The bytes become the current bytes from the cell on. If the block's active writer is another board, each comes to
-// depend on the other; if the whole block is written, only that writer on this board.
+// The bytes become the current bytes from the cell on. If the block's active writer is not the requester's board, each
+// comes to depend on the other; if the whole block is written, only that writer on this board.
+fn write_by(
+    image: &mut [u8],
+    state: Record,
+    who: Requester,
+    cell: usize,
+    bytes: &[u8],
+    k: usize,
+) -> Reply
+    ensures { λ r. ⌜ Performed (Write who cell (now (bytes .entry))) k (now (image .entry)) state
+        r (now (image .exit)) ⌝ }
+{
+    let admission = admit_write(image, state, who, cell, bytes);
+    let Admission::Taken(p) = admission else {
+        return refusal(admission.number(), state);
+    };
+    let i = p.board;
+    let how = binding_of(p, bytes.len());
+    let next = bind(state, how, i, p.tag);
+    let budget = Budget::new(k);
+    let left = put_bytes(image, p, i, bytes, budget);
+    finish(k, left, false, 0, next)
+}
+
+// A write by a board.
 pub fn write(
     image: &mut [u8],
     state: Record,
@@ -122,17 +178,22 @@ pub fn write(
     bytes: &[u8],
     k: usize,
 ) -> Reply
-    ensures { λ r. ⌜ Performed (Write board cell (now (bytes .entry))) k (now (image .entry)) state
+    ensures { λ r. ⌜ Performed (Write (Board board) cell (now (bytes .entry))) k (now (image .entry)) state
         r (now (image .exit)) ⌝ }
 {
-    let admission = admit_write(image, state, board, cell, bytes);
-    let Admission::Taken(p) = admission else {
-        return refusal(admission.number(), state);
-    };
-    let i = board as u8;
-    let how = binding_of(p, bytes.len());
-    let next = bind(state, how, i, p.tag);
-    let budget = Budget::new(k);
-    let left = put_bytes(image, p, i, bytes, budget);
-    finish(k, left, false, 0, next)
+    write_by(image, state, Requester::Board(board), cell, bytes, k)
+}
+
+// A write by the port: at most 4 cells, as board P - 1.
+pub fn port_write(
+    image: &mut [u8],
+    state: Record,
+    cell: usize,
+    bytes: &[u8],
+    k: usize,
+) -> Reply
+    ensures { λ r. ⌜ Performed (Write Port cell (now (bytes .entry))) k (now (image .entry)) state
+        r (now (image .exit)) ⌝ }
+{
+    write_by(image, state, Requester::Port, cell, bytes, k)
 }
