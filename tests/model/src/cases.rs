@@ -1,10 +1,10 @@
 //! The program `cases` of the gate: plays a file of requests on the module
 //! and prints each with its answer. What a request looks like stands at the
 //! head of crates/cases/src/main.rt; what is answered is document 01's, with
-//! Req 01 and 02 of document 02.
+//! Req 01, 02 and 03 of document 02.
 
 use crate::forecast::{self, Forecast};
-use crate::module::{self, Answer, Record, CUT, DONE, UNCUT};
+use crate::module::{self, Answer, Record, Requester, CUT, DONE, UNCUT};
 use std::fmt::Write;
 
 /// The bytes that stand ready; the image lent is the first part of them.
@@ -14,11 +14,15 @@ const BUFFER: usize = 80;
 const FILL: u8 = 238;
 /// The largest number of a request.
 const LARGEST: usize = 999_999;
+/// The board's place among the numbers.
+const BOARD: usize = 1;
 
-/// A letter and six numbers, 0 where the line has fewer.
+/// A letter and six numbers, 0 where the line has fewer. In an access the
+/// word `port` may stand for the board, the second number.
 struct Request {
     letter: u8,
     numbers: [usize; 6],
+    port: bool,
 }
 
 impl Request {
@@ -28,11 +32,29 @@ impl Request {
             return None;
         };
         let mut numbers = [0; 6];
+        let mut port = false;
         for (i, word) in words.enumerate() {
+            if word == "port" && i == BOARD && b"RWw".contains(&letter) {
+                port = true;
+                continue;
+            }
             let number = word.parse().ok().filter(|number| *number <= LARGEST)?;
             *numbers.get_mut(i)? = number;
         }
-        Some(Request { letter, numbers })
+        Some(Request {
+            letter,
+            numbers,
+            port,
+        })
+    }
+
+    /// Who makes the access.
+    fn requester(&self) -> Requester {
+        if self.port {
+            Requester::Port
+        } else {
+            Requester::Board(self.numbers[BOARD])
+        }
     }
 }
 
@@ -226,16 +248,17 @@ fn call(
     buffer: &mut [u8],
 ) -> (Answer, Record) {
     let [_, a, b, c, d, _] = request.numbers;
+    let by = request.requester();
     match request.letter.to_ascii_uppercase() {
         b'F' => module::format(image, record, [a, b, c, d], k),
-        b'W' => module::write(image, record, a, b, &run(d, c), k),
+        b'W' => module::write(image, record, by, b, &run(d, c), k),
         b'C' => module::start(image, record, a, &run(c, b), k),
         b'A' => module::acknowledge(image, record, a, &run(c, b), k),
         b'X' => module::fault(image, record, a, k),
         b'U' => module::power_up(image, k),
         _ => {
             let room = d.min(buffer.len());
-            module::read(image, record, a, b, c, &mut buffer[..room])
+            module::read(image, record, by, b, c, &mut buffer[..room])
         }
     }
 }

@@ -4,7 +4,7 @@
 
 use crate::forecast::{self, Forecast};
 use crate::lines::{self, Room, LONGEST};
-use crate::module::{self, Answer, Record, Shape, CUT, DONE, TAGS, UNCUT};
+use crate::module::{self, Answer, Record, Requester, Shape, CUT, DONE, TAGS, UNCUT};
 use crate::player::{Player, MOST_LINES};
 use crate::random::Random;
 use std::collections::BTreeMap;
@@ -315,9 +315,10 @@ impl Check<'_> {
         let bytes = self.bytes(n.max(length));
         let image = &mut state.image;
         let kind = self.random.below(10);
+        let requester = Requester::Board(board);
         let (answer, next) = match kind {
-            0 | 1 => module::read(image, record, board, cell, n, &mut [0; 64]),
-            2..=5 => module::write(image, record, board, cell, &bytes[..n], UNCUT),
+            0 | 1 => module::read(image, record, requester, cell, n, &mut [0; 64]),
+            2..=5 => module::write(image, record, requester, cell, &bytes[..n], UNCUT),
             6 | 7 => module::fault(image, record, board, UNCUT),
             8 => module::start(image, record, board, &bytes[..length], UNCUT),
             _ => module::acknowledge(image, record, board, &bytes[..length], UNCUT),

@@ -1,6 +1,6 @@
 //! The independent test side: a plain model of `rsmrun`, the ledger, the
-//! generators of event files. Written from document 01 and Req 01 and 02 of
-//! document 02 alone.
+//! generators of event files. Written from document 01 and Req 01, 02 and 03
+//! of document 02 alone.
 #![forbid(unsafe_code)]
 
 pub mod cases;

@@ -1,4 +1,4 @@
-//! The memory module of document 01 over a lent image, with Req 01 of
+//! The memory module of document 01 over a lent image, with Req 01 and 03 of
 //! document 02.
 
 pub const MARK: [u8; 4] = [0x52, 0x53, 0x4D, 0x31];
@@ -11,6 +11,8 @@ const DECISION: usize = 9;
 const GROUP: usize = 10;
 pub(crate) const TAGS: usize = 12;
 const ALL: u16 = 0xFFFF;
+/// The most cells of a port access.
+const PORT_CELLS: usize = 4;
 
 /// The numbers that lay the image out.
 #[derive(Clone, Copy, Debug, PartialEq, Eq)]
@@ -62,6 +64,23 @@ impl Shape {
     /// The bits that stand for no board.
     fn beyond(&self) -> u16 {
         ((0xFFFF_u32 << self.boards) & 0xFFFF) as u16
+    }
+}
+
+/// Who makes an access: a board, or the fitter's service port.
+#[derive(Clone, Copy, Debug, PartialEq, Eq)]
+pub enum Requester {
+    Board(usize),
+    Port,
+}
+
+impl Requester {
+    /// The board whose access it is; the port uses the last board number.
+    fn board(self, shape: &Shape) -> usize {
+        match self {
+            Requester::Board(board) => board,
+            Requester::Port => shape.boards - 1,
+        }
     }
 }
 
@@ -303,14 +322,21 @@ pub fn header(image: &[u8], decision: u8) -> Option<Shape> {
 
 /// The tests that begin every call by a board: 11, 12, 1.
 pub(crate) fn begin(image: &[u8], record: &Record, board: usize) -> Result<Shape, u8> {
+    let (shape, _) = begin_as(image, record, Requester::Board(board))?;
+    Ok(shape)
+}
+
+/// The same tests by board or port; gives the board too.
+fn begin_as(image: &[u8], record: &Record, requester: Requester) -> Result<(Shape, usize), u8> {
     let shape = header(image, 0).ok_or(11)?;
     if !record.sound(&shape) {
         return Err(12);
     }
+    let board = requester.board(&shape);
     if board >= shape.boards {
         return Err(1);
     }
-    Ok(shape)
+    Ok((shape, board))
 }
 
 /// Refusal 2, else the block that the access lies in.
@@ -326,6 +352,23 @@ fn place(shape: &Shape, cell: usize, n: usize) -> Result<usize, u8> {
     } else {
         Err(2)
     }
+}
+
+/// The first tests of an access: 11, 12, 1, 2, and 17, for the port only.
+/// Gives the shape, the board and the block.
+fn enter(
+    image: &[u8],
+    record: &Record,
+    requester: Requester,
+    cell: usize,
+    n: usize,
+) -> Result<(Shape, usize, usize), u8> {
+    let (shape, board) = begin_as(image, record, requester)?;
+    let block = place(&shape, cell, n)?;
+    if requester == Requester::Port && n > PORT_CELLS {
+        return Err(17);
+    }
+    Ok((shape, board, block))
 }
 
 /// Whether n cells from `cell` on overwrite the block whole. If not, it is a
@@ -352,12 +395,12 @@ fn other_writer(
 pub fn read(
     image: &[u8],
     record: Record,
-    board: usize,
+    requester: Requester,
     cell: usize,
     n: usize,
     answer: &mut [u8],
 ) -> (Answer, Record) {
-    match try_read(image, record, board, cell, n, answer) {
+    match try_read(image, record, requester, cell, n, answer) {
         Ok(next) => (Answer::default(), next),
         Err(code) => (Answer::refused(code), record),
     }
@@ -366,13 +409,12 @@ pub fn read(
 fn try_read(
     image: &[u8],
     record: Record,
-    board: usize,
+    requester: Requester,
     cell: usize,
     n: usize,
     answer: &mut [u8],
 ) -> Result<Record, u8> {
-    let shape = begin(image, &record, board)?;
-    let block = place(&shape, cell, n)?;
+    let (shape, board, block) = enter(image, &record, requester, cell, n)?;
     let room = answer.get_mut(..n).ok_or(5)?;
     let other = other_writer(image, &shape, board, block)?;
     if record.members >> board & 1 == 1 {
@@ -389,25 +431,24 @@ fn try_read(
 pub fn write(
     image: &mut [u8],
     record: Record,
-    board: usize,
+    requester: Requester,
     cell: usize,
     bytes: &[u8],
     k: u32,
 ) -> (Answer, Record) {
-    try_write(image, record, board, cell, bytes, k)
+    try_write(image, record, requester, cell, bytes, k)
         .unwrap_or_else(|code| (Answer::refused(code), record))
 }
 
 fn try_write(
     image: &mut [u8],
     record: Record,
-    board: usize,
+    requester: Requester,
     cell: usize,
     bytes: &[u8],
     k: u32,
 ) -> Result<(Answer, Record), u8> {
-    let shape = begin(image, &record, board)?;
-    let block = place(&shape, cell, bytes.len())?;
+    let (shape, board, block) = enter(image, &record, requester, cell, bytes.len())?;
     let other = other_writer(image, &shape, board, block)?;
     let touched = other.map_or(0, |j| 1_u16 << j) | 1 << board;
     if record.members & touched != 0 {

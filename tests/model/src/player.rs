@@ -1,7 +1,7 @@
 //! The program `rsmrun`: plays event lines on one image and record.
 
 use crate::lines::{self, Event, Room, LONGEST};
-use crate::module::{self, Answer, Record, Shape, CUT, UNCUT};
+use crate::module::{self, Answer, Record, Requester, Shape, CUT, UNCUT};
 use std::io::{self, BufRead, Write};
 
 /// The program stops after so many lines.
@@ -71,6 +71,7 @@ impl Player {
             }
             Some(Event::Read { board, cell, n }) => {
                 let [board, cell, n] = [*board, *cell, *n].map(usize::from);
+                let board = Requester::Board(board);
                 let (answer, next) =
                     module::read(image, self.record, board, cell, n, &mut self.bytes);
                 if answer.code == module::DONE {
@@ -80,6 +81,7 @@ impl Player {
             }
             Some(Event::Write { board, cell, bytes }) => {
                 let [board, cell] = [*board, *cell].map(usize::from);
+                let board = Requester::Board(board);
                 module::write(image, self.record, board, cell, bytes, k)
             }
             Some(Event::Start { board, bytes }) => {
