@@ -39,6 +39,35 @@ pub fn file(mut input: &[u8]) -> Result<u32, String> {
     Ok(player.number)
 }
 
+/// The call of the list that an event is; formats and allowances are none.
+fn call_of<'a>(event: &Event<'a>) -> Option<Call<'a>> {
+    Some(match *event {
+        Event::Allowance(_) | Event::Format(_) => return None,
+        Event::Read { board, cell, n } => Call::Read {
+            board: board.into(),
+            cell: cell.into(),
+            n: n.into(),
+        },
+        Event::Write { board, cell, bytes } => Call::Write {
+            board: board.into(),
+            cell: cell.into(),
+            bytes,
+        },
+        Event::Start { board, bytes } => Call::Start {
+            board: board.into(),
+            context: bytes,
+        },
+        Event::Acknowledge { board, bytes } => Call::Acknowledge {
+            board: board.into(),
+            context: bytes,
+        },
+        Event::Fault { board } => Call::Fault {
+            board: board.into(),
+        },
+        Event::PowerUp => Call::PowerUp,
+    })
+}
+
 impl Checker {
     /// One line with its answer, the power-up that followed it, if any, and
     /// the image afterwards.
@@ -51,39 +80,28 @@ impl Checker {
         power_up: Option<&Answer>,
         image: &[u8],
     ) -> Result<(), String> {
-        let call = match *event {
-            Event::Allowance(_) => return Ok(()),
-            Event::Format(numbers) => {
-                self.format(numbers, answer);
-                return self.compare_image(image);
-            }
-            Event::Read { board, cell, n } => Call::Read {
-                board: board.into(),
-                cell: cell.into(),
-                n: n.into(),
-            },
-            Event::Write { board, cell, bytes } => Call::Write {
-                board: board.into(),
-                cell: cell.into(),
-                bytes,
-            },
-            Event::Start { board, bytes } => Call::Start {
-                board: board.into(),
-                context: bytes,
-            },
-            Event::Acknowledge { board, bytes } => Call::Acknowledge {
-                board: board.into(),
-                context: bytes,
-            },
-            Event::Fault { board } => Call::Fault {
-                board: board.into(),
-            },
-            Event::PowerUp => Call::PowerUp,
-        };
-        self.call(call, k, answer, bytes)?;
-        if let Some(answer) = power_up {
-            self.call(Call::PowerUp, UNCUT, answer, &[])?;
+        if let Event::Format(numbers) = *event {
+            self.format(numbers, answer);
         }
+        if let Some(call) = call_of(event) {
+            self.tell(call, k, answer, bytes)?;
+            if let Some(answer) = power_up {
+                self.tell(Call::PowerUp, UNCUT, answer, &[])?;
+            }
+        }
+        self.compare_image(image)
+    }
+
+    /// One call, which need not be a line's, and the image afterwards.
+    pub fn call(
+        &mut self,
+        call: Call,
+        k: u32,
+        answer: &Answer,
+        bytes: &[u8],
+        image: &[u8],
+    ) -> Result<(), String> {
+        self.tell(call, k, answer, bytes)?;
         self.compare_image(image)
     }
 
@@ -100,7 +118,7 @@ impl Checker {
     }
 
     /// Tells the ledger and holds the answer against its verdict.
-    fn call(&mut self, call: Call, k: u32, answer: &Answer, bytes: &[u8]) -> Result<(), String> {
+    fn tell(&mut self, call: Call, k: u32, answer: &Answer, bytes: &[u8]) -> Result<(), String> {
         let Some(ledger) = &mut self.ledger else {
             return Ok(());
         };

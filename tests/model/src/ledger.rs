@@ -1,7 +1,7 @@
 //! The ledger of document 01, written apart from the protocol, with the
-//! links of Req 01 of document 02. It is told the shape, each call with its
-//! arguments and allowance, and of the answer only whether it was refused,
-//! done or cut.
+//! links of Req 01 and the port accesses of Req 03 of document 02. It is told
+//! the shape, each call with its arguments and allowance, and of the answer
+//! only whether it was refused, done or cut.
 
 /// A call of the list.
 #[derive(Clone, Copy, Debug)]
@@ -13,6 +13,14 @@ pub enum Call<'a> {
     },
     Write {
         board: usize,
+        cell: usize,
+        bytes: &'a [u8],
+    },
+    PortRead {
+        cell: usize,
+        n: usize,
+    },
+    PortWrite {
         cell: usize,
         bytes: &'a [u8],
     },
@@ -134,7 +142,7 @@ impl Ledger {
                 _ => Ok(Verdict::default()),
             };
         }
-        let mut verdict = match call {
+        let mut verdict = match self.by_board(call) {
             Call::Read { board, cell, n } if told == Told::Done => self.read(board, cell, n),
             Call::Write { board, cell, bytes } if told == Told::Done => {
                 self.write(board, cell, bytes)
@@ -168,6 +176,17 @@ impl Ledger {
             verdict.group = 0;
         }
         Ok(verdict)
+    }
+
+    /// A port access as the access of board P - 1 that it is; any other call
+    /// as it stands.
+    fn by_board<'a>(&self, call: Call<'a>) -> Call<'a> {
+        let board = self.kept.len() - 1;
+        match call {
+            Call::PortRead { cell, n } => Call::Read { board, cell, n },
+            Call::PortWrite { cell, bytes } => Call::Write { board, cell, bytes },
+            call => call,
+        }
     }
 
     /// The writer of the last write noted in the block, if it is pending and

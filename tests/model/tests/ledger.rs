@@ -260,3 +260,47 @@ fn acknowledgement_without_a_commit() {
         )
         .is_err());
 }
+
+/// The ledger by itself: port accesses are noted as board 2's, the last one.
+#[test]
+fn port_accesses() {
+    let mut ledger = Ledger::new(3, 4, 3, 0);
+    let mut done = |call| ledger.tell(call, UNCUT, Told::Done).unwrap();
+    let context = &[];
+    done(Call::Write {
+        board: 0,
+        cell: 0,
+        bytes: &[1, 2],
+    });
+    assert_eq!(done(Call::PortRead { cell: 1, n: 3 }).bytes, [2, 0, 0]);
+    done(Call::PortWrite {
+        cell: 4,
+        bytes: &[3],
+    });
+    let board = 1;
+    let read = done(Call::Read {
+        board,
+        cell: 4,
+        n: 1,
+    });
+    assert_eq!(read.bytes, [3]);
+    // 2 depends on 0 and 1 on 2.
+    assert_eq!(done(Call::Start { board: 2, context }).group, 0b101);
+    assert_eq!(done(Call::Fault { board: 0 }).group, 0b111);
+    // 4 cells over 0's block: only 0 depends on 2; 3 cells bind both.
+    for (n, group) in [(4, 0b001), (3, 0b101)] {
+        let (board, bytes) = (0, &[9; 4]);
+        done(Call::Write {
+            board,
+            cell: 8,
+            bytes,
+        });
+        done(Call::PortWrite {
+            cell: 8,
+            bytes: &bytes[..n],
+        });
+        assert_eq!(done(Call::Fault { board }).group, group, "{n} cells");
+        done(Call::PowerUp);
+    }
+    assert_eq!(ledger.cells(), [0; 12]);
+}
