@@ -4,10 +4,11 @@
 
 use crate::forecast::{self, Forecast};
 use crate::lines::{self, Room, LONGEST};
-use crate::module::{self, Answer, Record, Requester, Shape, CUT, DONE, TAGS, UNCUT};
+use crate::module::{self, Answer, Requester, Shape, CUT, DONE, UNCUT};
 use crate::player::{Player, MOST_LINES};
 use crate::random::Random;
-use std::collections::BTreeMap;
+use crate::reached::Reached;
+use crate::state::State;
 use std::fmt::Debug;
 
 /// What a check over many files has to reach.
@@ -29,6 +30,7 @@ const SITUATIONS: &[&str] = &[
     "between: changed the image",
     "between: changed the record",
     "between: a fault with a block",
+    "between: a port access",
     "between: refused",
     "fault: refused 1",
     "fault: refused 11",
@@ -42,30 +44,9 @@ const SITUATIONS: &[&str] = &[
     "fault: cut",
 ];
 
-/// How often each situation was reached.
-pub struct Reached(BTreeMap<&'static str, u32>);
-
-impl Default for Reached {
-    fn default() -> Reached {
-        Reached(SITUATIONS.iter().map(|name| (*name, 0)).collect())
-    }
-}
-
-impl Reached {
-    pub fn counts(&self) -> impl Iterator<Item = (&'static str, u32)> + '_ {
-        self.0.iter().map(|(name, count)| (*name, *count))
-    }
-
-    fn note(&mut self, situation: &str) {
-        let count = self.0.get_mut(situation);
-        *count.expect("a situation of the list") += 1;
-    }
-
-    fn note_if(&mut self, holds: bool, situation: &str) {
-        if holds {
-            self.note(situation);
-        }
-    }
+/// No situation reached yet.
+pub fn reached() -> Reached {
+    Reached::none_of(SITUATIONS)
 }
 
 /// Plays a whole file and checks; the first difference is an error.
@@ -92,12 +73,6 @@ pub fn file(mut input: &[u8], seed: u64, reached: &mut Reached) -> Result<(), St
     Ok(())
 }
 
-#[derive(Clone)]
-struct State {
-    image: Vec<u8>,
-    record: Record,
-}
-
 struct Check<'a> {
     random: Random,
     reached: &'a mut Reached,
@@ -119,12 +94,12 @@ impl Check<'_> {
             return Ok(());
         };
         let mut other = state.clone();
-        self.scramble(&mut other, &shape);
+        other.scramble(&mut self.random, &shape);
         if self.random.per_mille(300) {
             self.every_board(&other, "scrambled, ")?;
         }
         let mut other = self.random.pick(&[&state, &other]).clone();
-        self.spoil(&mut other, &shape);
+        other.spoil(&mut self.random, &shape);
         self.every_board(&other, "spoilt, ")
     }
 
@@ -174,7 +149,7 @@ impl Check<'_> {
         reached.note_if(stores == 0, "fault: no block");
         let several = stores as usize > shape.size() + 1;
         reached.note_if(several, "fault: several blocks");
-        reached.note_if(tag_above(state, &shape), "fault: a tag above P");
+        reached.note_if(state.tag_above(&shape), "fault: a tag above P");
         let member = told.group & state.record.members != 0;
         reached.note_if(member, "fault: a member of the open commit");
         Ok(())
@@ -239,7 +214,8 @@ impl Check<'_> {
         let members = told.group.count_ones() as usize;
         let contexts = 2 * members * shape.context;
         let saved = told.stores as usize - 4 - contexts;
-        let outside = tags(state, shape)
+        let outside = state
+            .tags(shape)
             .any(|tag| tag != 0 && tag <= shape.boards && told.group >> (tag - 1) & 1 == 0);
         reached.note_if(members == 1, "commit: one member");
         reached.note_if(members > 1, "commit: several members");
@@ -248,7 +224,7 @@ impl Check<'_> {
         reached.note_if(saved > shape.size() + 1, "commit: several blocks");
         reached.note_if(shape.context == 0, "commit: K is 0");
         reached.note_if(outside, "commit: a block of a board outside");
-        reached.note_if(tag_above(state, shape), "commit: a tag above P");
+        reached.note_if(state.tag_above(shape), "commit: a tag above P");
     }
 
     /// The start and the other members' acknowledgements in any order, each
@@ -315,7 +291,11 @@ impl Check<'_> {
         let bytes = self.bytes(n.max(length));
         let image = &mut state.image;
         let kind = self.random.below(10);
-        let requester = Requester::Board(board);
+        let requester = self.random.pick(&[
+            Requester::Board(board),
+            Requester::Board(board),
+            Requester::Port,
+        ]);
         let (answer, next) = match kind {
             0 | 1 => module::read(image, record, requester, cell, n, &mut [0; 64]),
             2..=5 => module::write(image, record, requester, cell, &bytes[..n], UNCUT),
@@ -339,6 +319,8 @@ impl Check<'_> {
             "between: a fault with a block",
         );
         reached.note_if(answer.code != DONE, "between: refused");
+        let port = kind <= 5 && requester == Requester::Port && answer.code == DONE;
+        reached.note_if(port, "between: a port access");
     }
 
     /// A board that is no member; sometimes, or where all are members, any
@@ -362,66 +344,6 @@ impl Check<'_> {
     fn bytes(&mut self, count: usize) -> Vec<u8> {
         (0..count).map(|_| self.random.below(256) as u8).collect()
     }
-
-    /// Random rows and tags, sometimes a commit open.
-    fn scramble(&mut self, state: &mut State, shape: &Shape) {
-        let random = &mut self.random;
-        let boards = shape.boards;
-        let all = ((1_u32 << boards) - 1) as u16;
-        let mut record = Record::on();
-        let sparse = random.below(6);
-        for (i, row) in record.rows[..boards].iter_mut().enumerate() {
-            *row = all & !(1 << i);
-            for _ in 0..sparse {
-                *row &= random.below(65_536) as u16;
-            }
-        }
-        if boards > 1 && random.per_mille(200) {
-            let starter = random.below(boards);
-            let other = (starter + random.within(1, boards - 1)) % boards;
-            record.starter = starter as u16;
-            record.acknowledged = 1 << starter;
-            record.members = 1 << starter | 1 << other | all & random.below(65_536) as u16;
-        }
-        state.record = record;
-        let written = random.pick(&[0, 100, 500, 1000]);
-        for tag in &mut state.image[TAGS..][..shape.blocks] {
-            *tag = 0;
-            if random.per_mille(written) {
-                *tag = random.within(1, boards) as u8;
-            }
-        }
-    }
-
-    /// Something of header, length, tags or record becomes another, one to
-    /// three times.
-    fn spoil(&mut self, state: &mut State, shape: &Shape) {
-        let random = &mut self.random;
-        let State { image, record } = state;
-        for _ in 0..random.pick(&[1, 1, 2, 3]) {
-            let bit = 1 << random.below(16);
-            let board = random.below(16);
-            match random.below(12) {
-                0 => image[random.below(12)] ^= 1 << random.below(8),
-                1 => image[9] = random.pick(&[1, 2, 255]),
-                2..=4 => {
-                    let above = random.within(shape.boards + 1, 255);
-                    image[TAGS + random.below(shape.blocks)] = above as u8;
-                }
-                5 => record.on = false,
-                6 => record.rows[board] ^= bit,
-                7 => record.rows[board] |= 1 << board,
-                8 => record.members ^= bit,
-                9 => record.acknowledged ^= bit,
-                10 => record.acknowledged = record.members,
-                _ => record.starter = random.pick(&[0, 1, board as u16, 16, 255]),
-            }
-        }
-        if random.per_mille(100) {
-            let length = image.len();
-            image.resize(random.pick(&[0, 11, 12, length - 1, length + 1]), 0);
-        }
-    }
 }
 
 /// What a whole commit came to.
@@ -440,13 +362,4 @@ fn done(told: Forecast) -> Answer {
         group: told.group,
         stores: told.stores,
     }
-}
-
-fn tags<'a>(state: &'a State, shape: &Shape) -> impl Iterator<Item = usize> + 'a {
-    let tags = &state.image[TAGS..][..shape.blocks];
-    tags.iter().map(|tag| usize::from(*tag))
-}
-
-fn tag_above(state: &State, shape: &Shape) -> bool {
-    tags(state, shape).any(|tag| tag > shape.boards)
 }

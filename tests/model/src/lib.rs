@@ -15,4 +15,6 @@ pub mod module;
 pub mod pieces;
 pub mod player;
 pub mod random;
+pub mod reached;
 pub mod replay;
+pub mod state;

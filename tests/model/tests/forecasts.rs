@@ -2,7 +2,7 @@
 //! calls that they foretell.
 use model::cases;
 use model::forecast::{self, Forecast};
-use model::forecast_check::{self, Reached};
+use model::forecast_check;
 use model::generate;
 use model::lines;
 use model::player::Player;
@@ -97,7 +97,7 @@ fn requests() {
 /// Every situation of the check is reached.
 #[test]
 fn random_histories() {
-    let mut reached = Reached::default();
+    let mut reached = forecast_check::reached();
     for seed in 0..100 {
         let events = generate::events(seed, 200);
         let checked = forecast_check::file(&events, seed, &mut reached);

@@ -2,8 +2,7 @@
 //! files and runs the ledger check and the forecast check on each. Half of
 //! the files go through a pipe, in random pieces. The script `tests/fuzz`
 //! calls it.
-use model::forecast_check::{self, Reached};
-use model::{check, generate, pieces, player, random::Random};
+use model::{check, forecast_check, generate, pieces, player, random::Random};
 use std::fs::{self, File};
 use std::io::{self, Read, Write};
 use std::path::Path;
@@ -48,7 +47,7 @@ fn compare(program: &str, count: u64, seed: u64, folder: &Path) -> Result<u64, S
     let failed = |error: io::Error| format!("{}: {error}", folder.display());
     fs::create_dir_all(folder).map_err(failed)?;
     let mut lines = 0;
-    let mut reached = Reached::default();
+    let mut foretold = forecast_check::reached();
     for i in 0..count {
         let file_seed = seed.wrapping_mul(1_000_003).wrapping_add(i);
         let events = match i {
@@ -62,7 +61,7 @@ fn compare(program: &str, count: u64, seed: u64, folder: &Path) -> Result<u64, S
         };
         let expected = player::answers(&events);
         let ledger = check::file(&events);
-        let forecasts = forecast_check::file(&events, file_seed, &mut reached);
+        let forecasts = forecast_check::file(&events, file_seed, &mut foretold);
         let keep = |name: &str, bytes: &[u8]| fs::write(folder.join(name), bytes).map_err(failed);
         let (given, lengths) = match &pieces {
             None => ("", String::new()),
