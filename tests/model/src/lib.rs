@@ -14,6 +14,7 @@ pub mod mixes;
 pub mod module;
 pub mod pieces;
 pub mod player;
+pub mod port_check;
 pub mod random;
 pub mod reached;
 pub mod replay;

@@ -1,8 +1,8 @@
 //! `fuzz RSMRUN COUNT SEED` compares a program with the model on generated
-//! files and runs the ledger check and the forecast check on each. Half of
-//! the files go through a pipe, in random pieces. The script `tests/fuzz`
-//! calls it.
-use model::{check, forecast_check, generate, pieces, player, random::Random};
+//! files and runs the ledger check, the forecast check and the port check on
+//! each. Half of the files go through a pipe, in random pieces. The script
+//! `tests/fuzz` calls it.
+use model::{check, forecast_check, generate, pieces, player, port_check, random::Random};
 use std::fs::{self, File};
 use std::io::{self, Read, Write};
 use std::path::Path;
@@ -48,6 +48,7 @@ fn compare(program: &str, count: u64, seed: u64, folder: &Path) -> Result<u64, S
     fs::create_dir_all(folder).map_err(failed)?;
     let mut lines = 0;
     let mut foretold = forecast_check::reached();
+    let mut ported = port_check::reached();
     for i in 0..count {
         let file_seed = seed.wrapping_mul(1_000_003).wrapping_add(i);
         let events = match i {
@@ -62,6 +63,7 @@ fn compare(program: &str, count: u64, seed: u64, folder: &Path) -> Result<u64, S
         let expected = player::answers(&events);
         let ledger = check::file(&events);
         let forecasts = forecast_check::file(&events, file_seed, &mut foretold);
+        let ports = port_check::file(&events, file_seed, &mut ported);
         let keep = |name: &str, bytes: &[u8]| fs::write(folder.join(name), bytes).map_err(failed);
         let (given, lengths) = match &pieces {
             None => ("", String::new()),
@@ -85,6 +87,7 @@ fn compare(program: &str, count: u64, seed: u64, folder: &Path) -> Result<u64, S
         }
         lines += u64::from(ledger.map_err(|what| format!("{kept}\nledger: {what}"))?);
         forecasts.map_err(|what| format!("{kept}\nforecasts: {what}"))?;
+        ports.map_err(|what| format!("{kept}\nports: {what}"))?;
     }
     Ok(lines)
 }
