@@ -98,13 +98,7 @@ pub fn read(
 }
 
 // A read by the port: at most 4 cells, as board P - 1.
-pub fn port_read(
-    image: &[u8],
-    state: Record,
-    cell: usize,
-    n: usize,
-    buffer: &mut [u8],
-) -> Reply
+pub fn port_read(image: &[u8], state: Record, cell: usize, n: usize, buffer: &mut [u8]) -> Reply
     ensures { λ r. ⌜ Answered (Read Port cell n (length (now (buffer .entry)))) (now (image .entry)) state
         (now (buffer .entry)) r (now (buffer .exit)) ⌝ }
 {
@@ -185,13 +179,7 @@ pub fn write(
 }
 
 // A write by the port: at most 4 cells, as board P - 1.
-pub fn port_write(
-    image: &mut [u8],
-    state: Record,
-    cell: usize,
-    bytes: &[u8],
-    k: usize,
-) -> Reply
+pub fn port_write(image: &mut [u8], state: Record, cell: usize, bytes: &[u8], k: usize) -> Reply
     ensures { λ r. ⌜ Performed (Write Port cell (now (bytes .entry))) k (now (image .entry)) state
         r (now (image .exit)) ⌝ }
 {

@@ -104,7 +104,8 @@ module _ {image : List ℕ} {r : Record} {s : Shape} (who : Requester) (a n room
             )
 
         module _ (fine : p .tag ≤ s .boards) where
-          pub read-last : refusal-at image r (Read who a n room) ≡ first (test (has (engaged r) (board-of s who)) 13 ∷ [])
+          pub read-last : refusal-at image r (Read who a n room)
+              ≡ first (test (has (engaged r) (board-of s who)) 13 ∷ [])
           unfolding read-tests first
           read-last =
               own

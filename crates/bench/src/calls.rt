@@ -18,6 +18,9 @@ fn format_call(image: &mut [u8], state: Record, r: Request) -> Reply {
 
 fn read_call(image: &[u8], state: Record, r: Request, buffer: &mut [u8]) -> Reply {
     let room = at_most(r.d, buffer.len());
+    if r.port {
+        return access::port_read(image, state, r.b, r.c, &mut buffer[0..room]);
+    }
     access::read(image, state, r.a, r.b, r.c, &mut buffer[0..room])
 }
 
@@ -35,6 +38,9 @@ fn write_call(image: &mut [u8], state: Record, r: Request) -> Reply {
     let source = sequence();
     let first = at_most(r.d, 256);
     let end = part_end(first, r.c, 256);
+    if r.port {
+        return access::port_write(image, state, r.b, &source[first..end], r.k);
+    }
     access::write(image, state, r.a, r.b, &source[first..end], r.k)
 }
 

@@ -2,9 +2,10 @@
 ghost use Prim.Native.Nat.{_≤_, _<_};
 ghost use lib.ListN.{length};
 
-// A letter and six numbers, 0 where the line has fewer.
+// A letter and six numbers, 0 where the line has fewer; whether the second of them is the word `port`.
 pub struct Request {
     pub letter: u8,
+    pub port: bool,
     pub k: usize,
     pub a: usize,
     pub b: usize,
@@ -64,10 +65,19 @@ fn number(line: &[u8], at: usize) -> Field {
     Field { value, at: i }
 }
 
+// Whether the word `port` stands there; no number begins with its first letter.
+fn port_at(line: &[u8], at: usize) -> bool {
+    if at >= line.len() {
+        return false;
+    }
+    line[at] == b'p'
+}
+
 pub fn request_of(line: &[u8]) -> Request {
     if line.len() == 0 {
         return Request {
             letter: b'#',
+            port: false,
             k: 0,
             a: 0,
             b: 0,
@@ -83,8 +93,10 @@ pub fn request_of(line: &[u8]) -> Request {
     let c = number(line, b.at);
     let d = number(line, c.at);
     let e = number(line, d.at);
+    let port = port_at(line, k.at);
     Request {
         letter,
+        port,
         k: k.value,
         a: a.value,
         b: b.value,

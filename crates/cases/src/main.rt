@@ -15,6 +15,7 @@
 //   I n                     1: each such line ends in the image that its call left, before any power-up; 0: no more
 //   D 0                     the bytes of the image
 //   R 0 board cell n room   read into a buffer of that length
+//                           R, W and w with the word `port` for the board: by the port
 //   E 0 board               the commit forecast: status, group, stores
 //   G 0 board               the fault forecast, likewise
 //   K 0 board               context

@@ -9,6 +9,7 @@ use lib.Seq.{take-append-seam}
 use native.Mathlib.Omega.{arith}
 use borrow.Author.Tests.{leb-true, eqb-true, ne-eqb}
 use Rattle.protocol.specs.Calls.{filled, Read, Write, Start, Acknowledge, Fault}
+use Rattle.protocol.specs.declared.Requester.the-variants.{Board}
 use Rattle.boards.proofs.Basics.{and-true, if-true, if-false}
 use Rattle.text.specs.Fields.{before, after, commas, field, number-of, pairs, decoded}
 use Rattle.text.specs.Events.{Event, Format, Make, Allow, Unreadable, with-number, with-bytes, room}
@@ -122,12 +123,12 @@ module _ (s : List ℕ) where
   format-made d e f g = rw (d, e, f, g)
 
   pub read-made : {i a n : ℕ} → number-of (field 1 s) ≡ Value i → number-of (field 2 s) ≡ Value a
-      → number-of (field 3 s) ≡ Value n → Make (Read i a n room) ≡ read-of s
+      → number-of (field 3 s) ≡ Value n → Make (Read (Board i) a n room) ≡ read-of s
   unfolding read-of with-number
   read-made d e f = rw (d, e, f)
 
   pub write-made : {i a n : ℕ} {out buffer : List ℕ} → number-of (field 1 s) ≡ Value i → number-of (field 2 s) ≡ Value a
-      → Told (field 3 s) (Count n) out buffer → Make (Write i a (take n out)) ≡ write-of s
+      → Told (field 3 s) (Count n) out buffer → Make (Write (Board i) a (take n out)) ≡ write-of s
   unfolding write-of with-number
   write-made d e told = rw (d, e, bytes told)
 

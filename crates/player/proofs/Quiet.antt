@@ -5,6 +5,7 @@ use mathlib.Core.Bool.{Bool, true, false, cond}
 use mathlib.Core.List.{List, []}
 use lib.Dec.{eqb}
 use Rattle.protocol.specs.Calls.{Request, Write, Start, Acknowledge, Fault, Power-up, perform, plan, acknowledging}
+use Rattle.protocol.specs.declared.Requester.the-variants.{Board}
 use Rattle.volatile.specs.declared.Record.{Record}
 use Rattle.turns.proofs.Laws.{no-bytes}
 use Rattle.player.specs.Requests.{request-of}
@@ -23,10 +24,10 @@ quiet letter i a bytes k image r =
     either false x y p q = q
 
     step : (w c d x : Bool) →
-        Silent (cond w (Write i a bytes)
+        Silent (cond w (Write (Board i) a bytes)
         (cond c (Start i bytes) (cond d (Acknowledge i bytes) (cond x (Fault i) Power-up))))
     step w c d x =
-        either w _ _ (no-bytes image r (Write i a bytes) k refl)
+        either w _ _ (no-bytes image r (Write (Board i) a bytes) k refl)
         (either c _ _ (no-bytes image r (Start i bytes) k refl)
         (either d _ _ (no-bytes image r (Acknowledge i bytes) k refl)
         (either x _ _ (no-bytes image r (Fault i) k refl) (no-bytes image r Power-up k refl))))

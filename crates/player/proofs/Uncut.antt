@@ -14,7 +14,7 @@ use Rattle.protocol.specs.Image.{Memory, Store, Area, Decision, Tags, Current, 
 use Rattle.protocol.specs.Image.{total, shape-of, view, raw}
 use Rattle.volatile.specs.Volatile.{fresh, opened, depends, commit-of, acknowledge}
 use Rattle.boards.specs.Boards.{commit-group, fault-group}
-use Rattle.protocol.specs.Accesses.{touched}
+use Rattle.protocol.specs.Accesses.{board-of, touched}
 use Rattle.protocol.specs.Calls.{Request, Test, Read, Write, Start, Acknowledge, Fault, Power-up, first, refusals}
 use Rattle.protocol.specs.Calls.{entry-tests}
 use Rattle.protocol.specs.Calls.{write-tests, start-tests, acknowledge-tests, plan, perform, executed, refused}
@@ -162,11 +162,12 @@ few-stores : (image : List ℕ) (r : Record) (request : Request) →
     let m = view s image in
     first (refusals image s m r request) ≡ 0 → length (plan s m r request .stores) ≤ 65535
 unfolding refusals plan
-few-stores image r (Read i a n room) e = omega arith
-few-stores image r (Write i a bytes) e =
+few-stores image r (Read who a n room) e = omega arith
+few-stores image r (Write who a bytes) e =
     let s = shape-of image in
+    let i = board-of s who in
     let m = view s image in
-    let ok = taken image r i (write-tests s m r i a (length bytes)) e in
+    let ok = taken image r i (write-tests s m r who a (length bytes)) e in
     let tags = tagging m i (touched s a (length bytes)) in
     omega (
       arith,
@@ -174,7 +175,7 @@ few-stores image r (Write i a bytes) e =
       few-tags m i (touched s a (length bytes)),
       few-touched s a (length bytes),
       length-placing Current a bytes,
-      ranged s a (length bytes) (write-passed s m r i a (length bytes) (ok .1) .range) .few,
+      ranged s a (length bytes) (write-passed s m r who a (length bytes) (ok .1) .range) .few,
       ok .0 .most-size,
     )
 few-stores image r (Start i context) e =

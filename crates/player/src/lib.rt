@@ -22,6 +22,7 @@ ghost use mathlib.Core.Path.{_≡_};
 ghost use Prim.Native.Nat.{_≤_};
 ghost use lib.ListN.{length, take, replicate};
 ghost use Rattle.protocol.specs.Calls.{perform, Read};
+ghost use Rattle.protocol.specs.declared.Requester.the-variants.{Board};
 ghost use Rattle.text.specs.Events.{Format, Make, room, counted, meant};
 ghost use Rattle.text.specs.Turns.{ended, play};
 ghost use Rattle.store.specs.Promise.{Formatted, Performed};
@@ -84,7 +85,7 @@ fn play_read(
     at: usize,
 ) -> Turned
     requires { ⌜ Ready p at (now area) (now out) ⌝ }
-    ensures { λ r. ⌜ Turns (play (player-of p (now (area .entry))) (Make (Read board cell n room))) number at
+    ensures { λ r. ⌜ Turns (play (player-of p (now (area .entry))) (Make (Read (Board board) cell n room))) number at
         (now (out .entry)) r (now (area .exit)) (now (out .exit)) ⌝ }
 {
     let length = p.length;

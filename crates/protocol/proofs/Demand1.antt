@@ -158,7 +158,8 @@ unfolding plan executed made refuse
 read-stores-nothing image r who a n room k =
     ⊎-elim
     (λ (e : eqb (refusal-at image r (Read who a n room)) 0 ≡ true).
-    ap (λ o. o .image) (taken image refl r (Read who a n room) (eqb-true _ 0 e) k) ∙ ap (λ l. made l image) (take-nil k))
+    ap (λ o. o .image) (taken image refl r (Read who a n room) (eqb-true _ 0 e) k)
+    ∙ ap (λ l. made l image) (take-nil k))
     (λ (e : eqb (refusal-at image r (Read who a n room)) 0 ≡ false).
     ap (λ o. o .image) (turned-down image refl r (Read who a n room) (eqb-false _ 0 e) k))
     (decide (eqb (refusal-at image r (Read who a n room)) 0))

@@ -162,7 +162,8 @@ module _ {s : Shape} {w : System} (h : Sound s (w .image)) (q : w .waiting ≡ f
 
   -- what a read that is not refused has passed
   read-ok : (who : Requester) (a n room : ℕ) → first (refusals (w .image) s m (w .state) (Read who a n room)) ≡ 0
-      → Access-ok s read-binding (board-of s who) a n (w .ledger) × All (λ b. b < s .blocks) (touched s a n) × Ranged s a n
+      → Access-ok s read-binding (board-of s who) a n (w .ledger) × All (λ b. b < s .blocks) (touched s a n)
+      × Ranged s a n
   unfolding refusals engaged
   read-ok who a n room e =
       let i = board-of s who in
@@ -242,7 +243,8 @@ module _ {s : Shape} {w : System} (h : Sound s (w .image)) (q : w .waiting ≡ f
   write-ends who a bytes k (turned-away v p r u e) = refused-on s w (Write who a bytes) k (up h q on) v p r
   write-ends who a bytes k (stopped e f) =
       let ok = write-ok who a bytes e in
-      let calm = write-through (board-of s who) a bytes positive (ok .0 .few) (ok .0 .board) (on-idle positive on) .prefix k in
+      let calm =
+      write-through (board-of s who) a bytes positive (ok .0 .few) (ok .0 .board) (on-idle positive on) .prefix k in
       stopped-off s w (Write who a bytes) k f
       (rw (f .memory) (off-undone (on .consistent) (idle calm) (agrees-none (on .commit)) (on .lengths)))
   write-ends who a bytes k (finished e l f) =

@@ -25,7 +25,7 @@ passes-to-17 image r i a n = eqb (first (entry-tests image r i ++ test (bad-rang
 
 -- A read or a write of n cells from a on, as a function `by` of who makes it.
 pub record As-last-board (a n : ℕ) (by : Requester → Request) (image : List ℕ) (r : Record) (k : ℕ) : Type 0 where
-  -- The port is refused 17 if board P − 1 passes to 17 and n is above 4, and changes nothing then. Else its access is in
+  -- If board P − 1 passes to 17 and n is above 4, the port is refused 17 and nothing is changed. Else its access is in
   -- everything that of board P − 1.
   pub port : perform image r (by Port) k
       ≡ cond (passes-to-17 image r (last-board (shape-of image)) a n && ltb 4 n) (refused 17 image r)

@@ -11,9 +11,11 @@ use lib.Seq.{take-append-seam, take-at}
 use lib.ListN.{length, length-take, take, drop, set, replicate}
 use borrow.Author.Tests.{eq-eqb, eqb-true, eqb-false, le-ltb}
 use Rattle.protocol.specs.Image.{Store, view, shape-of, raw, Current}
+use Rattle.protocol.specs.Accesses.{board-of}
 use Rattle.protocol.specs.Calls.{Request, Read, first, Outcome, perform, executed, refused, refusals, read-tests, plan}
 use Rattle.protocol.specs.Calls.{format, format-tests, formatting, filled}
 use Rattle.protocol.specs.declared.Shape.{Shape}
+use Rattle.protocol.specs.declared.Requester.{Requester}
 use Rattle.volatile.specs.declared.Record.{Record}
 use Rattle.protocol.specs.declared.Reply.{Reply}
 use Rattle.boards.proofs.Basics.{decide, clash, length-span}
@@ -108,27 +110,28 @@ format-none s image r k =
 -- ---- reads
 
 -- a read that is done answered its n bytes, no more than its buffer has; one that is refused answered none
-module _ (image : List ℕ) (r : Record) (i a n room k : ℕ) where
+module _ (image : List ℕ) (r : Record) (who : Requester) (a n room k : ℕ) where
   number : ℕ
-  number = first (refusals image (shape-of image) (view (shape-of image) image) r (Read i a n room))
+  number = first (refusals image (shape-of image) (view (shape-of image) image) r (Read who a n room))
 
   within-room : number ≡ 0 → n ≤ room
   unfolding number refusals
   within-room e =
       let s = shape-of image in
       let m = view s image in
-      read-passed s m r i a n room (entry-first image r i (read-tests s m r i a n room) e .1) .fits
+      read-passed s m r who a n room
+      (entry-first image r (board-of s who) (read-tests s m r who a n room) e .1) .fits
 
   -- no store, so it is not cut
   uncut : ltb k 0 ≡ false
   uncut = le-ltb k 0 (omega arith)
 
-  refused-number : eqb number 0 ≡ false → perform image r (Read i a n room) k .reply .answer .status ≡ number
+  refused-number : eqb number 0 ≡ false → perform image r (Read who a n room) k .reply .answer .status ≡ number
   unfolding number perform refused
   refused-number e = rw e
 
-  pub read-done : perform image r (Read i a n room) k .reply .answer .status ≡ 0 →
-      (length (perform image r (Read i a n room) k .bytes) ≡ n) × (n ≤ room)
+  pub read-done : perform image r (Read who a n room) k .reply .answer .status ≡ 0 →
+      (length (perform image r (Read who a n room) k .bytes) ≡ n) × (n ≤ room)
   unfolding number perform refused executed plan
   read-done done =
       ⊎-elim
@@ -137,8 +140,8 @@ module _ (image : List ℕ) (r : Record) (i a n room k : ℕ) where
       (λ (e : eqb number 0 ≡ false). clash (eq-eqb number 0 (sym (refused-number e) ∙ done)) e)
       (decide (eqb number 0))
 
-  pub read-refused : perform image r (Read i a n room) k .reply .answer .status ≢ 0
-      → [] ≡ perform image r (Read i a n room) k .bytes
+  pub read-refused : perform image r (Read who a n room) k .reply .answer .status ≢ 0
+      → [] ≡ perform image r (Read who a n room) k .bytes
   unfolding number perform refused executed plan
   read-refused h =
       ⊎-elim
@@ -147,9 +150,9 @@ module _ (image : List ℕ) (r : Record) (i a n room k : ℕ) where
       (decide (eqb number 0))
 
   -- the count of the bytes answered, and those bytes in the buffer
-  module _ {count : ℕ} {reply : Reply} (same : reply ≡ perform image r (Read i a n room) k .reply)
+  module _ {count : ℕ} {reply : Reply} (same : reply ≡ perform image r (Read who a n room) k .reply)
       (counts : count ≡ cond (eqb (reply .answer .status) 0) n 0) where
-    status-same : reply .answer .status ≡ perform image r (Read i a n room) k .reply .answer .status
+    status-same : reply .answer .status ≡ perform image r (Read who a n room) k .reply .answer .status
     status-same = ap (λ (q : Reply). q .answer .status) same
 
     pub few-answered : count ≤ room
@@ -161,11 +164,11 @@ module _ (image : List ℕ) (r : Record) (i a n room k : ℕ) where
         (decide (eqb (reply .answer .status) 0))
 
     pub bytes-answered : (buffer : List ℕ) {x : List ℕ}
-        → x ≡ filled (perform image r (Read i a n room) k .bytes) buffer →
-        take (count - 0) (drop 0 x) ≡ perform image r (Read i a n room) k .bytes
+        → x ≡ filled (perform image r (Read who a n room) k .bytes) buffer →
+        take (count - 0) (drop 0 x) ≡ perform image r (Read who a n room) k .bytes
     unfolding filled
     bytes-answered buffer {x} f =
-        let o = perform image r (Read i a n room) k in
+        let o = perform image r (Read who a n room) k in
         rw (sub-zero, f)
         (⊎-elim
         (λ (e : eqb (reply .answer .status) 0 ≡ true).

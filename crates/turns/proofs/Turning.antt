@@ -13,6 +13,7 @@ use borrow.Author.Tests.{eq-eqb, ne-eqb}
 use Rattle.protocol.specs.Calls.{Outcome, Request, Read, Power-up, perform, plan}
 use Rattle.protocol.specs.Calls.{format}
 use Rattle.protocol.specs.declared.Shape.{Shape}
+use Rattle.protocol.specs.declared.Requester.{Requester}
 use Rattle.volatile.specs.declared.Record.{Record}
 use Rattle.protocol.specs.declared.Reply.{Reply}
 use Rattle.store.specs.Promise.{Performed, Formatted, Answered}
@@ -125,22 +126,22 @@ done-turn letter o number other m h l same =
 -- ---- reads
 
 -- a read, whose bytes stand at the start of its buffer
-pub read-turn : (area : List ℕ) (size : ℕ) (state : Record)
-    (i a n k number : ℕ) {at count : ℕ} {b buffer x : List ℕ} {reply : Reply}
-    {r : Turned} {y z : List ℕ} → Answered (Read i a n room) (lent size area) state buffer reply x →
+pub read-turn : (area : List ℕ) (size : ℕ) (state : Record) (who : Requester)
+    (a n k number : ℕ) {at count : ℕ} {b buffer x : List ℕ} {reply : Reply}
+    {r : Turned} {y z : List ℕ} → Answered (Read who a n room) (lent size area) state buffer reply x →
     count ≡ cond (eqb (reply .answer .status) 0) n 0 →
     Turns (ended 82
     (record { reply = reply; image = take size area; bytes = take (count - 0) (drop 0 x) })) number at b r y z →
-    Turns (ended 82 (perform (take size area) state (Read i a n room) k)) number at b r y z
-read-turn area size state i a n k number {at} {b} {buffer} {x} {reply} {r} {y} {z} m c t =
+    Turns (ended 82 (perform (take size area) state (Read who a n room) k)) number at b r y z
+read-turn area size state who a n k number {at} {b} {buffer} {x} {reply} {r} {y} {z} m c t =
     let image = take size area in
-    let q : Answered (Read i a n room) image state buffer reply x =
-    subst (λ (j : ℕ). Answered (Read i a n room) (take j area) state buffer reply x) (sub-zero size) m
+    let q : Answered (Read who a n room) image state buffer reply x =
+    subst (λ (j : ℕ). Answered (Read who a n room) (take j area) state buffer reply x) (sub-zero size) m
     in
     subst (λ (o : Outcome). Turns (ended 82 o) number at b r y z)
-    (outcome-of (perform image state (Read i a n room) k) (q .reply k)
-    (sym (read-stores-nothing image state i a n room k))
-    (bytes-answered image state i a n room k (q .reply k) c buffer (q .buffer k))) t
+    (outcome-of (perform image state (Read who a n room) k) (q .reply k)
+    (sym (read-stores-nothing image state who a n room k))
+    (bytes-answered image state who a n room k (q .reply k) c buffer (q .buffer k))) t
 
 -- ---- formats
 

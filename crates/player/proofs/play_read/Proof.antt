@@ -3,6 +3,7 @@ use Prim.Native.Nat.{_-_}
 use native.Mathlib.Omega.{arith}
 use Rattle.text.specs.Turns.{play, letter-of}
 use Rattle.turns.proofs.Laws.{few-answered, take-most}
+use Rattle.protocol.specs.declared.Requester.the-variants.{Board}
 use Rattle.turns.proofs.Turning.{read-turn}
 use borrow.Author.Needs.{needs}
 use Rattle.player.proofs.play_read.Statement.{statement}
@@ -65,8 +66,8 @@ returns c =
     let made = counted .before .before in
     let start = made .before .before .before .before .before .before .before in
     let args = start .args in
-    read-turn (args .area .now) (args .p .length) (args .p .state) (args .board) (args .cell) (args .n) (args .p .k)
-    (args .number)
+    read-turn (args .area .now) (args .p .length) (args .p .state) (Board (args .board)) (args .cell) (args .n)
+    (args .p .k) (args .number)
     (made .read .ensures) (counted .answered .ensures) (turned .end-turn .ensures)
 
 pub play-read-spec : {M : Type 1} → statement M
