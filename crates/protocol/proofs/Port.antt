@@ -69,6 +69,17 @@ module _ {a n : ℕ} {by : Requester → Request} {image : List ℕ} {r : Record
   abbrev limited : Bool
   limited = passes-to-17 image r last a n && ltb 4 n
 
+  boards : (i : ℕ) → perform image r (by (Board i)) k .reply .answer .status ≢ 17
+  unfolding board-of over-port-limit entry-tests
+  boards i =
+      let others : All (Clear (λ n. eqb n 17)) (before image r i a n ++ test false 17 ∷ h .rest i) =
+      also (other-number refl)
+      (also (other-number refl)
+      (also (other-number refl) (also (other-number refl) (also (not-held refl) (h .others i _ refl refl refl))))) in
+      eqb-false _ 17
+      (status-test (λ n. eqb n 17) refl refl image r (by (Board i)) k
+      ∙ ap (λ n. eqb n 17) (h .tests (Board i)) ∙ first-clear refl others)
+
   -- the port's number by the board's
   number : refusal-at image r (by Port) ≡ cond limited 17 (refusal-at image r (by (Board last)))
   unfolding board-of over-port-limit entry-tests anyOf
@@ -85,17 +96,6 @@ module _ {a n : ℕ} {by : Requester → Request} {image : List ℕ} {r : Record
       (λ (e : limited ≡ false).
       rw e (h .same (number ∙ ap (λ b. cond b 17 (refusal-at image r (by (Board last)))) e)))
       (decide limited)
-
-  boards : (i : ℕ) → perform image r (by (Board i)) k .reply .answer .status ≢ 17
-  unfolding board-of over-port-limit entry-tests
-  boards i =
-      let others : All (Clear (λ n. eqb n 17)) (before image r i a n ++ test false 17 ∷ h .rest i) =
-      also (other-number refl)
-      (also (other-number refl)
-      (also (other-number refl) (also (other-number refl) (also (not-held refl) (h .others i _ refl refl refl))))) in
-      eqb-false _ 17
-      (status-test (λ n. eqb n 17) refl refl image r (by (Board i)) k
-      ∙ ap (λ n. eqb n 17) (h .tests (Board i)) ∙ first-clear refl others)
 
   -- a header in order has P above 0
   no-bad-board : perform image r (by Port) k .reply .answer .status ≢ 1
