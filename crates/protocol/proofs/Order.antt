@@ -2,7 +2,7 @@
 -- and both at every point of a list.
 use Prim.Native.Nat.{ℕ, zero, suc, _*_, _^_, _≤_, _<_}
 use mathlib.Core.Path.{_≡_, refl, sym, _∙_, ap, subst}
-use mathlib.Core.Bool.{Bool, true, false, _&&_, _||_, not, cond}
+use mathlib.Core.Bool.{Bool, true, false, _&&_, _||_, not}
 use mathlib.Core.List.{List, [], _∷_, _++_, map, append-nil}
 use mathlib.Core.Logic.{⊎-elim, _≢_, _⊎_, inl, inr}
 use lib.Dec.{eqb, ltb, leb}
@@ -20,11 +20,10 @@ use Rattle.protocol.specs.Accesses.{touched, bind-boards, bind-tag, bind
 use Rattle.protocol.specs.declared.Binding.{Binding}
 use Rattle.protocol.specs.declared.Binding.the-variants.{OneWay, TwoWay, Opposite}
 use Rattle.protocol.specs.Accesses.{board-of, read-binding, write-binding}
-use Rattle.protocol.specs.Calls.{Request, Read, Write, Start, Acknowledge, Fault, Power-up, Test, test, first}
+use Rattle.protocol.specs.Calls.{Request, Read, Write, Start, Acknowledge, Fault, Power-up, Test, first}
 use Rattle.protocol.specs.Calls.{refusals, entry-tests, read-tests, write-tests, start-tests, acknowledge-tests}
 use Rattle.protocol.specs.Calls.{bad-tags, stored-group, placing, tagging, blocks-copied, completing, deciding}
 use Rattle.protocol.specs.Calls.{completed-first, recovering, acknowledging, Plan, plan, perform, refusal-at}
-use Rattle.protocol.specs.Calls.{executed, refused as refuse}
 use Rattle.protocol.specs.Ledger.{done, Verdict, refused, cut}
 use Rattle.protocol.specs.Claim.{verdict, System, waits, answer, next, Answers}
 use Rattle.protocol.specs.Demand1.{Left-in-order, Order-kept}
@@ -32,7 +31,7 @@ use Rattle.protocol.specs.declared.Shape.{Shape}
 use Rattle.protocol.specs.declared.Requester.{Requester}
 use Rattle.volatile.specs.declared.Record.{Record}
 use Rattle.boards.proofs.Basics.{decide, clash, and-true, any-none, none-any, All, none, also, all-append, all-cond}
-use Rattle.boards.proofs.Basics.{all-map, or-false, false-or, or-right, true-or, refute, eqb-same}
+use Rattle.boards.proofs.Basics.{all-map, or-false, false-or, or-right, true-or, eqb-same}
 use Rattle.boards.proofs.Groups.{has-below, has-zero, has-with, mask-below, meets-yes, commit-group-self}
 use Rattle.boards.proofs.Groups.{commit-group-within}
 use Rattle.volatile.proofs.Order.{Orderly, orderly, orderly-record, May-acknowledge}

@@ -1,10 +1,10 @@
 -- A port access is that of board P − 1, but for 17.
-use Prim.Native.Nat.{ℕ, _-_, _<_, _≤_}
+use Prim.Native.Nat.{ℕ}
 use mathlib.Core.Path.{_≡_, refl, sym, _∙_, ap}
-use mathlib.Core.Bool.{Bool, true, false, _&&_, not, cond}
+use mathlib.Core.Bool.{Bool, true, false, _&&_, cond}
 use mathlib.Core.List.{List, [], _∷_, _++_}
 use mathlib.Core.Logic.{⊎-elim, _≢_}
-use lib.Dec.{eqb, ltb, leb}
+use lib.Dec.{eqb, ltb}
 use lib.ListN.{length, drop}
 use native.Mathlib.Omega.{arith}
 use borrow.Author.Tests.{eqb-true, eqb-false, lt-leb}
@@ -13,11 +13,11 @@ use Rattle.boards.proofs.Basics.{decide, and-false, All, none, also}
 use Rattle.protocol.specs.Image.{shape-of, in-order, view}
 use Rattle.protocol.specs.Accesses.{board-of}
 use Rattle.protocol.specs.Calls.{Request, Read, Write, Test, test, first, refusals, refusal-at, over-port-limit}
-use Rattle.protocol.specs.Calls.{entry-tests, read-tests, write-tests, bad-range, plan, record-refused, perform}
+use Rattle.protocol.specs.Calls.{entry-tests, read-tests, write-tests, plan, record-refused, perform}
 use Rattle.protocol.specs.Calls.{refused as refuse}
 use Rattle.protocol.specs.Ledger.{refused, done, cut, Verdict, Ledger, update, effect, commit-effect}
 use Rattle.protocol.specs.Ledger.{all-undone}
-use Rattle.protocol.specs.Port.{last-board, passes-to-17, As-last-board, Port-as-last-board}
+use Rattle.protocol.specs.Port.{last-board, before-17, passes-to-17, As-last-board, Port-as-last-board}
 use Rattle.protocol.specs.declared.Shape.{Shape}
 use Rattle.protocol.specs.declared.Requester.{Requester}
 use Rattle.protocol.specs.declared.Requester.the-variants.{Board, Port}
@@ -43,17 +43,13 @@ between before rest numbered true =
 
 -- ---- reads and writes alike
 
--- 11 for the header, 12, 1 and 2
-abbrev before : List ℕ → Record → ℕ → ℕ → ℕ → List Test
-before image r i a n = entry-tests image r i ++ test (bad-range (shape-of image) a n) 2 ∷ []
-
 -- What is needed of an access of n cells from a on: the tests that follow 17, which know the board only; and that
 -- nothing but 17 tells the port from board P − 1.
 record Alike-but-17 (a n : ℕ) (by : Requester → Request) (image : List ℕ) (r : Record) (k : ℕ) : Type 0 where
   rest : ℕ → List Test
   tests : (who : Requester)
       → let i = board-of (shape-of image) who in
-      refusal-at image r (by who) ≡ first (before image r i a n ++ test (over-port-limit who n) 17 ∷ rest i)
+      refusal-at image r (by who) ≡ first (before-17 image r i a n ++ test (over-port-limit who n) 17 ∷ rest i)
   others : (i : ℕ) (p : ℕ → Bool) → p 5 ≡ false → p 11 ≡ false → p 13 ≡ false → All (Clear p) (rest i)
   kept : record-refused r (by Port) ≡ r
   same : refusal-at image r (by Port) ≡ refusal-at image r (by (Board (last-board (shape-of image))))
@@ -72,7 +68,7 @@ module _ {a n : ℕ} {by : Requester → Request} {image : List ℕ} {r : Record
   boards : (i : ℕ) → perform image r (by (Board i)) k .reply .answer .status ≢ 17
   unfolding board-of over-port-limit entry-tests
   boards i =
-      let others : All (Clear (λ n. eqb n 17)) (before image r i a n ++ test false 17 ∷ h .rest i) =
+      let others : All (Clear (λ n. eqb n 17)) (before-17 image r i a n ++ test false 17 ∷ h .rest i) =
       also (other-number refl)
       (also (other-number refl)
       (also (other-number refl) (also (other-number refl) (also (not-held refl) (h .others i _ refl refl refl))))) in
@@ -84,7 +80,7 @@ module _ {a n : ℕ} {by : Requester → Request} {image : List ℕ} {r : Record
   number : refusal-at image r (by Port) ≡ cond limited 17 (refusal-at image r (by (Board last)))
   unfolding board-of over-port-limit entry-tests anyOf
   number =
-      h .tests Port ∙ between (before image r last a n) (h .rest last) refl (ltb 4 n)
+      h .tests Port ∙ between (before-17 image r last a n) (h .rest last) refl (ltb 4 n)
       ∙ ap (cond limited 17) (sym (h .tests (Board last)))
 
   port : perform image r (by Port) k ≡ cond limited (refuse 17 image r) (perform image r (by (Board last)) k)
@@ -109,7 +105,7 @@ module _ {a n : ℕ} {by : Requester → Request} {image : List ℕ} {r : Record
       (decide (in-order 0 image)))
     where
       others : in-order 0 image ≡ true
-          → All (Clear (λ n. eqb n 1)) (before image r last a n ++ test (ltb 4 n) 17 ∷ h .rest last)
+          → All (Clear (λ n. eqb n 1)) (before-17 image r last a n ++ test (ltb 4 n) 17 ∷ h .rest last)
       others e =
           let some = limits _ (order-sound e .0 .allowed-shape) .some-boards in
           also (other-number refl)

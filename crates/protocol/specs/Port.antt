@@ -8,7 +8,7 @@ use mathlib.Core.Logic.{_≢_}
 use lib.Dec.{eqb, ltb}
 use lib.ListN.{length}
 use Rattle.protocol.specs.Image.{shape-of}
-use Rattle.protocol.specs.Calls.{Request, Read, Write, test, first, entry-tests, bad-range, refused, perform}
+use Rattle.protocol.specs.Calls.{Request, Read, Write, Test, test, first, entry-tests, bad-range, refused, perform}
 use Rattle.protocol.specs.Ledger.{Verdict, Ledger, update}
 use Rattle.protocol.specs.declared.Shape.{Shape}
 use Rattle.protocol.specs.declared.Requester.{Requester}
@@ -19,9 +19,12 @@ use Rattle.volatile.specs.declared.Record.{Record}
 abbrev pub last-board : Shape → ℕ
 last-board s = s .boards - 1
 
--- whether board i's access of n cells from a on passes 11 for the header, 12, 1 and 2, which come before 17
+-- what comes before 17 for board i's access of n cells from a on: 11 for the header, 12, 1, 2; whether it passes them
+abbrev pub before-17 : List ℕ → Record → ℕ → ℕ → ℕ → List Test
+before-17 image r i a n = entry-tests image r i ++ test (bad-range (shape-of image) a n) 2 ∷ []
+
 abbrev pub passes-to-17 : List ℕ → Record → ℕ → ℕ → ℕ → Bool
-passes-to-17 image r i a n = eqb (first (entry-tests image r i ++ test (bad-range (shape-of image) a n) 2 ∷ [])) 0
+passes-to-17 image r i a n = eqb (first (before-17 image r i a n)) 0
 
 -- A read or a write of n cells from a on, as a function `by` of who makes it.
 pub record As-last-board (a n : ℕ) (by : Requester → Request) (image : List ℕ) (r : Record) (k : ℕ) : Type 0 where

@@ -1,6 +1,5 @@
 -- `board_of` meets its contract: an allowed shape has a last board.
 use native.Mathlib.Omega.{arith}
-use mathlib.Core.Path.{_≡_, sym, _∙_}
 use Rattle.protocol.specs.Accesses.{board-of}
 use Rattle.layout.proofs.Laws.{bounded}
 use Rattle.entry.proofs.board_of.Statement.{statement}
