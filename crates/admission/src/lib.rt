@@ -74,9 +74,12 @@ fn bad_range(s: Shape, cell: usize, n: usize) -> bool
 fn over_port_limit(who: Requester, n: usize) -> bool
     ensures { λ r. ⌜ r ≡ over-port-limit who n ⌝ }
 {
+    if n <= PORT_LIMIT {
+        return false;
+    }
     match who {
         Requester::Board(_) => false,
-        Requester::Port => n > PORT_LIMIT,
+        Requester::Port => true,
     }
 }
 
