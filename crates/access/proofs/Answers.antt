@@ -42,7 +42,7 @@ use Rattle.admission.proofs.Touched.{touched-one, whole-one, bind-one}
 use Rattle.admission.proofs.Tests.{block-of}
 use Rattle.access.specs.Leaves.{filled-from, tag-store, binding-of}
 
--- the place of an access in the image
+-- the place of an access lies in the image, and its board is one of sixteen
 pub record Within (image : List ℕ) (n : ℕ) (p : Place) : Type 0 where
   pub board : p .board < 16
   pub tag : p .tag ≤ 16
@@ -128,7 +128,7 @@ module _ {image : List ℕ} {r : Record} (who : Requester) (a : ℕ) (bytes : Li
 
     -- the stores of a write's plan, as the code makes them
     tag-stored : let s = shape-of image in
-        map (raw s) (tagging (view s image) i (touched s a (length bytes))) ≡ tag-store p (p .board)
+        map (raw s) (tagging (view s image) i (touched s a (length bytes))) ≡ tag-store p
     unfolding tagging tag-store raw base
     tag-stored =
         let s = shape-of image in
@@ -143,7 +143,7 @@ module _ {image : List ℕ} {r : Record} (who : Requester) (a : ℕ) (bytes : Li
 
     write-stores : let s = shape-of image in
         map (raw s) (plan s (view s image) r (Write who a bytes) .stores)
-        ≡ tag-store p (p .board) ++ put-stores (p .at) bytes
+        ≡ tag-store p ++ put-stores (p .at) bytes
     unfolding plan
     write-stores =
         let s = shape-of image in
@@ -161,7 +161,7 @@ module _ {image : List ℕ} {r : Record} (who : Requester) (a : ℕ) (bytes : Li
     pub write-done : {m : ℕ} {b left : Budget} {how : Binding} {next : Record} {reply : Reply} {after : List ℕ}
         → refusal-at image r (Write who a bytes) ≡ 0 → how ≡ binding-of p (length bytes)
         → next ≡ bind-tag depend how r (p .board) (p .tag) → b ≡ start m
-        → Makes (tag-store p (p .board) ++ put-stores (p .at) bytes) b image left after
+        → Makes (tag-store p ++ put-stores (p .at) bytes) b image left after
         → reply ≡ reply-of m left false 0 next → Performed (Write who a bytes) m image r reply after
     unfolding plan
     write-done {m} {b} {left} {how} {after = after} z e q new h g =

@@ -17,8 +17,8 @@ unfoldable pub filled-from : List ℕ → ℕ → ℕ → List ℕ → List ℕ
 filled-from image at n buffer = span (λ x. getD image x 0) at n ++ drop n buffer
 
 -- the tag of a place, if it is not the writer's
-unfoldable pub tag-store : Place → ℕ → List Store
-tag-store p i = cond (eqb (p .tag) (i + 1)) [] (one (tags-at + p .block) (i + 1) ∷ [])
+unfoldable pub tag-store : Place → List Store
+tag-store p = cond (eqb (p .tag) (p .board + 1)) [] (one (tags-at + p .block) (p .board + 1) ∷ [])
 
 -- how a write of n bytes at a place binds
 abbrev pub binding-of : Place → ℕ → Binding

@@ -106,11 +106,11 @@ pub fn port_read(image: &[u8], state: Record, cell: usize, n: usize, buffer: &mu
 }
 
 // The tag of the block, if it is not the writer's.
-fn put_tag(image: &mut [u8], p: Place, i: u8, k: Budget) -> Budget
-    requires { ⌜ (tags-at + p .block < length (now image)) × (i < 16) ⌝ }
-    ensures { λ r. ⌜ Makes (tag-store p i) k (now (image .entry)) r (now (image .exit)) ⌝ }
+fn put_tag(image: &mut [u8], p: Place, k: Budget) -> Budget
+    requires { ⌜ (tags-at + p .block < length (now image)) × (p .board < 16) ⌝ }
+    ensures { λ r. ⌜ Makes (tag-store p) k (now (image .entry)) r (now (image .exit)) ⌝ }
 {
-    let own = i + 1;
+    let own = p.board + 1;
     if p.tag == own {
         return k;
     }
@@ -118,13 +118,13 @@ fn put_tag(image: &mut [u8], p: Place, i: u8, k: Budget) -> Budget
 }
 
 // The tag, then the bytes, ascending.
-fn put_bytes(image: &mut [u8], p: Place, i: u8, bytes: &[u8], k: Budget) -> Budget
+fn put_bytes(image: &mut [u8], p: Place, bytes: &[u8], k: Budget) -> Budget
     requires { ⌜ (tags-at + p .block < length (now image)) × (p .at + length (now bytes) ≤ length (now image))
-        × (i < 16) ⌝ }
-    ensures { λ r. ⌜ Makes (tag-store p i ++ put-stores (p .at) (now (bytes .entry))) k
+        × (p .board < 16) ⌝ }
+    ensures { λ r. ⌜ Makes (tag-store p ++ put-stores (p .at) (now (bytes .entry))) k
         (now (image .entry)) r (now (image .exit)) ⌝ }
 {
-    let tagged = put_tag(image, p, i, k);
+    let tagged = put_tag(image, p, k);
     put_all(image, p.at, bytes, tagged)
 }
 
@@ -138,8 +138,8 @@ fn binding_of(p: Place, n: usize) -> Binding
     Binding::TwoWay
 }
 
-// The bytes become the current bytes from the cell on. If the block's active writer is not the requester's board, each
-// comes to depend on the other; if the whole block is written, only that writer on this board.
+// The bytes become the current bytes from the cell on. If the block's active writer is another board than the
+// requester's, each comes to depend on the other; if the whole block is written, only that writer on this board.
 fn write_by(
     image: &mut [u8],
     state: Record,
@@ -155,11 +155,10 @@ fn write_by(
     let Admission::Taken(p) = admission else {
         return refusal(admission.number(), state);
     };
-    let i = p.board;
     let how = binding_of(p, bytes.len());
-    let next = bind(state, how, i, p.tag);
+    let next = bind(state, how, p.board, p.tag);
     let budget = Budget::new(k);
-    let left = put_bytes(image, p, i, bytes, budget);
+    let left = put_bytes(image, p, bytes, budget);
     finish(k, left, false, 0, next)
 }
 

@@ -81,10 +81,10 @@ module _ {image : List ℕ} {r : Record} {s : Shape} (who : Requester) (a n room
     unfolding read-tests first
     read-seventeen ok h = own ∙ rw (ok, h)
 
-    module _ (ok : bad-range s a n ≡ false) (short : over-port-limit who n ≡ false) where
+    module _ (ok : bad-range s a n ≡ false) (within-limit : over-port-limit who n ≡ false) where
       pub read-five : room < n → refusal-at image r (Read who a n room) ≡ 5
       unfolding read-tests first
-      read-five l = own ∙ rw (ok, short, lt-ltb room n l)
+      read-five l = own ∙ rw (ok, within-limit, lt-ltb room n l)
 
       module _ (fits : n ≤ room) {i : ℕ} {p : Place} (at : p ≡ place-at s image i a) where
         abbrev place-tag : view s image Tags (a / s .size) ≡ p .tag
@@ -97,7 +97,7 @@ module _ {image : List ℕ} {r : Record} {s : Shape} (who : Requester) (a n room
             ∙ rw (
               any-one s (view s image) a n ok (ltb (s .boards)),
               ok,
-              short,
+              within-limit,
               le-ltb room n fits,
               place-tag,
               lt-ltb (s .boards) (p .tag) l,
@@ -112,7 +112,7 @@ module _ {image : List ℕ} {r : Record} {s : Shape} (who : Requester) (a n room
               ∙ rw (
                 any-one s (view s image) a n ok (ltb (s .boards)),
                 ok,
-                short,
+                within-limit,
                 le-ltb room n fits,
                 place-tag,
                 le-ltb (s .boards) (p .tag) fine,

@@ -7,14 +7,17 @@ use mathlib.Core.Logic.{_⊎_, inl, inr, _≢_}
 use borrow.Author.Tests.{le-leb, lt-leb}
 use Rattle.protocol.specs.Image.{in-order, shape-of}
 use Rattle.volatile.specs.Volatile.{bad-record}
+use Rattle.protocol.specs.Accesses.{board-of}
 use Rattle.protocol.specs.Calls.{Request, Test, first, entry-tests, refusal-at, refusal-of, record-refused}
 use Rattle.protocol.specs.declared.Shape.{Shape}
+use Rattle.protocol.specs.declared.Requester.{Requester}
 use Rattle.volatile.specs.declared.Record.{Record}
 use Rattle.protocol.specs.declared.Reply.{Reply}
 use Rattle.store.specs.Promise.{Performed}
 use Rattle.store.proofs.Ends.{turned}
 use Rattle.protocol.proofs.Bridge.{board-small}
 use Rattle.protocol.proofs.Refusals.{first-stops}
+use Rattle.layout.specs.Headers.{Shaped}
 use Rattle.layout.proofs.Laws.{bounded}
 use Rattle.entry.specs.Tested.{Tested, refused, passed, refusal-number, entry-says, Entry-passed}
 use Rattle.entry.specs.declared.Entry.{Entry}
@@ -39,6 +42,11 @@ module _ (image : List ℕ) (r : Record) (i : ℕ) where
       pub entry-none : i < s .boards → first (entry-tests image r i) ≡ 0
       unfolding entry-tests first
       entry-none l = rw (e, same, f, lt-leb (s .boards) i l)
+
+-- the board of a requester, worked out by the shape that was read
+pub same-board : {image : List ℕ} {s : Shape} {i : ℕ} (who : Requester) → Shaped image s → i ≡ board-of s who
+    → board-of (shape-of image) who ≡ i
+same-board who h q = ap (λ s. board-of s who) (h .shape) ∙ sym q
 
 -- a board is one of sixteen
 pub small : {image : List ℕ} {r : Record} {i : ℕ} {s : Shape} → Entry-passed image r i s → i < 16

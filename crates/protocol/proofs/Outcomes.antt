@@ -90,23 +90,23 @@ module _ {s : Shape} (image : List ℕ) (same : shape-of image ≡ s) (r : Recor
       let never-cut = uncut tests (refusals-uncut image s (view s image) r request) in
       ap verdict (turned-down e k) ∙ rw (ne-eqb (first tests) 0 e, ne-eqb (first tests) 9 never-cut)
 
--- the status is the refusal's number, or 0 or 9: a test that tells those two from nothing else tells the number
+-- the status is the refusal's number, else 0 or 9: a test that fails at 0 and at 9 takes status and number alike
 pub status-test : (p : ℕ → Bool) → p 0 ≡ false → p 9 ≡ false → (image : List ℕ) (r : Record) (request : Request) (k : ℕ)
     → p (perform image r request k .reply .answer .status) ≡ p (refusal-at image r request)
 unfolding executed refuse
-status-test p done-no cut-no image r request k =
+status-test p at-done at-cut image r request k =
     let n = refusal-at image r request in
     ⊎-elim
     (λ (e : eqb n 0 ≡ true).
     let z = eqb-true n 0 e in
-    ap (λ o. p (o .reply .answer .status)) (taken image refl r request z k) ∙ ended (ltb k _) ∙ sym (ap p z ∙ done-no))
+    ap (λ o. p (o .reply .answer .status)) (taken image refl r request z k) ∙ ended (ltb k _) ∙ sym (ap p z ∙ at-done))
     (λ (e : eqb n 0 ≡ false).
     ap (λ o. p (o .reply .answer .status)) (turned-down image refl r request (eqb-false n 0 e) k))
     (decide (eqb n 0))
   where
     ended : (b : Bool) → p (cond b 9 0) ≡ false
-    ended true = cut-no
-    ended false = done-no
+    ended true = at-cut
+    ended false = at-done
 
 module _ {s : Shape} {image : List ℕ} (h : Sound s image) (r : Record) (request : Request) (k : ℕ) where
   abbrev the-plan : Plan

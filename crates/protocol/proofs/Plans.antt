@@ -13,10 +13,9 @@ use Rattle.boards.specs.Lists.{anyOf}
 use Rattle.boards.specs.Boards.{tagged-in, tagged}
 use Rattle.protocol.specs.Image.{Decision, Group, Tags, Current, Recovery, Tentative, Memory, Put, put, rank}
 use Rattle.protocol.specs.Image.{size, after, cells, raw, shape-of, view}
-use Rattle.protocol.specs.Accesses.{touched}
+use Rattle.protocol.specs.Accesses.{board-of, touched}
 use Rattle.protocol.specs.Calls.{bad-range, stored-group, placing, tagging, completing, deciding, completed-first}
 use Rattle.protocol.specs.Calls.{recovering, decides, acknowledging, plan, refusals}
-use Rattle.protocol.specs.Accesses.{board-of}
 use Rattle.protocol.specs.Calls.{Request, Read, Write, Start, Acknowledge, Fault, Power-up, refusal-at}
 use Rattle.protocol.specs.declared.Shape.{Shape}
 use Rattle.boards.proofs.Basics.{or-false, All, none, also, all-append, all-cond, all-map, anyOf-false, or-right}

@@ -2,7 +2,7 @@
 use Prim.Native.Nat.{ℕ}
 use mathlib.Core.Path.{_≡_, refl, sym, _∙_, ap}
 use mathlib.Core.Bool.{Bool, true, false, _&&_, cond}
-use mathlib.Core.List.{List, [], _∷_, _++_}
+use mathlib.Core.List.{List, _∷_, _++_}
 use mathlib.Core.Logic.{⊎-elim, _≢_}
 use lib.Dec.{eqb, ltb}
 use lib.ListN.{length, drop}
@@ -43,14 +43,14 @@ between before rest numbered true =
 
 -- ---- reads and writes alike
 
--- What is needed of an access of n cells from a on: the tests that follow 17, which know the board only; and that
--- nothing but 17 tells the port from board P − 1.
+-- What is needed of an access of n cells from a on: the tests that follow 17, which know the board only and have the
+-- numbers 5, 11 and 13; and that nothing but 17 tells the port from board P − 1.
 record Alike-but-17 (a n : ℕ) (by : Requester → Request) (image : List ℕ) (r : Record) (k : ℕ) : Type 0 where
   rest : ℕ → List Test
   tests : (who : Requester)
       → let i = board-of (shape-of image) who in
       refusal-at image r (by who) ≡ first (before-17 image r i a n ++ test (over-port-limit who n) 17 ∷ rest i)
-  others : (i : ℕ) (p : ℕ → Bool) → p 5 ≡ false → p 11 ≡ false → p 13 ≡ false → All (Clear p) (rest i)
+  numbers : (i : ℕ) (p : ℕ → Bool) → p 5 ≡ false → p 11 ≡ false → p 13 ≡ false → All (Clear p) (rest i)
   kept : record-refused r (by Port) ≡ r
   same : refusal-at image r (by Port) ≡ refusal-at image r (by (Board (last-board (shape-of image))))
       → perform image r (by Port) k ≡ perform image r (by (Board (last-board (shape-of image)))) k
@@ -65,16 +65,25 @@ module _ {a n : ℕ} {by : Requester → Request} {image : List ℕ} {r : Record
   abbrev limited : Bool
   limited = passes-to-17 image r last a n && ltb 4 n
 
+  -- a number that is not that of the first test to hold is not answered
+  never : (who : Requester) (m : ℕ) → eqb 0 m ≡ false → eqb 9 m ≡ false
+      → let i = board-of (shape-of image) who in
+      eqb (first (before-17 image r i a n ++ test (over-port-limit who n) 17 ∷ h .rest i)) m ≡ false
+      → perform image r (by who) k .reply .answer .status ≢ m
+  never who m at-done at-cut other =
+      eqb-false _ m
+      (status-test (λ n. eqb n m) at-done at-cut image r (by who) k ∙ ap (λ n. eqb n m) (h .tests who) ∙ other)
+
   boards : (i : ℕ) → perform image r (by (Board i)) k .reply .answer .status ≢ 17
   unfolding board-of over-port-limit entry-tests
-  boards i =
-      let others : All (Clear (λ n. eqb n 17)) (before-17 image r i a n ++ test false 17 ∷ h .rest i) =
-      also (other-number refl)
-      (also (other-number refl)
-      (also (other-number refl) (also (other-number refl) (also (not-held refl) (h .others i _ refl refl refl))))) in
-      eqb-false _ 17
-      (status-test (λ n. eqb n 17) refl refl image r (by (Board i)) k
-      ∙ ap (λ n. eqb n 17) (h .tests (Board i)) ∙ first-clear refl others)
+  boards i = never (Board i) 17 refl refl (first-clear {p = λ n. eqb n 17} refl others)
+    where
+      others : All (Clear (λ n. eqb n 17)) (before-17 image r i a n ++ test false 17 ∷ h .rest i)
+      others =
+          also (other-number refl)
+          (also (other-number refl)
+          (also (other-number refl)
+          (also (other-number refl) (also (not-held refl) (h .numbers i _ refl refl refl)))))
 
   -- the port's number by the board's
   number : refusal-at image r (by Port) ≡ cond limited 17 (refusal-at image r (by (Board last)))
@@ -97,10 +106,9 @@ module _ {a n : ℕ} {by : Requester → Request} {image : List ℕ} {r : Record
   no-bad-board : perform image r (by Port) k .reply .answer .status ≢ 1
   unfolding board-of over-port-limit entry-tests first
   no-bad-board =
-      eqb-false _ 1
-      (status-test (λ n. eqb n 1) refl refl image r (by Port) k ∙ ap (λ n. eqb n 1) (h .tests Port)
-      ∙ ⊎-elim
-      (λ (e : in-order 0 image ≡ true). first-clear refl (others e))
+      never Port 1 refl refl
+      (⊎-elim
+      (λ (e : in-order 0 image ≡ true). first-clear {p = λ n. eqb n 1} refl (others e))
       (λ (e : in-order 0 image ≡ false). rw e)
       (decide (in-order 0 image)))
     where
@@ -111,7 +119,7 @@ module _ {a n : ℕ} {by : Requester → Request} {image : List ℕ} {r : Record
           also (other-number refl)
           (also (other-number refl)
           (also (not-held (lt-leb (shape-of image .boards) last (omega (arith, some))))
-          (also (other-number refl) (also (other-number refl) (h .others last _ refl refl refl)))))
+          (also (other-number refl) (also (other-number refl) (h .numbers last _ refl refl refl)))))
 
   ledger : (s : Shape) (v : Verdict) (l : Ledger)
       → update s (by Port) k v l ≡ update s (by (Board (last-board s))) k v l
@@ -133,7 +141,7 @@ read-alike a n room image r k =
     record {
       rest = λ i. drop 2 (read-tests s (view s image) r (Board i) a n room);
       tests = λ who. refl;
-      others = λ i p five eleven thirteen.
+      numbers = λ i p five eleven thirteen.
           also (other-number five) (also (other-number eleven) (also (other-number thirteen) none));
       kept = refl;
       same = λ e. rw e;
@@ -149,7 +157,7 @@ write-alike a bytes image r k =
     record {
       rest = λ i. drop 2 (write-tests s (view s image) r (Board i) a (length bytes));
       tests = λ who. refl;
-      others = λ i p five eleven thirteen. also (other-number eleven) (also (other-number thirteen) none);
+      numbers = λ i p five eleven thirteen. also (other-number eleven) (also (other-number thirteen) none);
       kept = refl;
       same = λ e. rw e;
       effects = λ s l. refl;

@@ -2,7 +2,7 @@
 -- of an image the tests look at.
 use Prim.Native.Nat.{ℕ, _+_, _≤_, _<_}
 use mathlib.Core.Path.{_≡_, refl, sym, _∙_, ap, subst, fun-ext}
-use mathlib.Core.Bool.{Bool, true, false, cond}
+use mathlib.Core.Bool.{Bool, true, false}
 use mathlib.Core.List.{List, [], _∷_, _++_}
 use mathlib.Core.Logic.{⊎-elim, _≢_}
 use lib.Dec.{eqb, ltb}
@@ -11,7 +11,7 @@ use native.Mathlib.Omega.{arith}
 use borrow.Author.Tests.{eqb-true, eqb-false, leb-false, ltb-false, ltb-true}
 use Rattle.boards.specs.Lists.{every, anyOf}
 use Rattle.boards.specs.Boards.{has, tagged-in}
-use Rattle.boards.proofs.Basics.{clash, decide, refute, or-false, not-false, All, none, also}
+use Rattle.boards.proofs.Basics.{clash, decide, refute, or-false, not-false, All, none, also, all-map, false-anyOf}
 use Rattle.protocol.specs.Image.{Memory, Decision, Tags, byte, in-order}
 use Rattle.protocol.specs.Image.{shape-of, view, base, size}
 use Rattle.volatile.specs.Volatile.{engaged, commit-of, bad-record}
@@ -105,14 +105,10 @@ module _ {p : ℕ → Bool} where
 
 -- no refusal has the number that says "cut"
 pub uncut : (ts : List Test) → anyOf (λ t. eqb (t .number) 9) ts ≡ false → first ts ≢ 9
-unfolding first anyOf
-uncut [] h e = omega arith
-uncut (t ∷ ts) h e =
-    let both = or-false (eqb (t .number) 9) (anyOf (λ t. eqb (t .number) 9) ts) h in
-    ⊎-elim
-    (λ (b : t .holds ≡ true). eqb-false (t .number) 9 (both .0) (sym (ap (λ c. cond c (t .number) (first ts)) b) ∙ e))
-    (λ (b : t .holds ≡ false). uncut ts (both .1) (sym (ap (λ c. cond c (t .number) (first ts)) b) ∙ e))
-    (decide (t .holds))
+uncut ts h =
+    let others : All (Clear (λ n. eqb n 9)) ts =
+    all-map (λ t e. record { passed = λ n. clash n e }) (false-anyOf (λ t. eqb (t .number) 9) ts h) in
+    eqb-false (first ts) 9 (first-clear refl others)
 
 pub refusals-uncut : (image : List ℕ) (s : Shape) (m : Memory) (r : Record) (request : Request)
     → anyOf (λ t. eqb (t .number) 9) (refusals image s m r request) ≡ false

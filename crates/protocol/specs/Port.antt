@@ -8,14 +8,15 @@ use mathlib.Core.Logic.{_≢_}
 use lib.Dec.{eqb, ltb}
 use lib.ListN.{length}
 use Rattle.protocol.specs.Image.{shape-of}
-use Rattle.protocol.specs.Calls.{Request, Read, Write, Test, test, first, entry-tests, bad-range, refused, perform}
+use Rattle.protocol.specs.Calls.{Request, Read, Write, Test, test, first, entry-tests, bad-range}
+use Rattle.protocol.specs.Calls.{refused, perform}
 use Rattle.protocol.specs.Ledger.{Verdict, Ledger, update}
 use Rattle.protocol.specs.declared.Shape.{Shape}
 use Rattle.protocol.specs.declared.Requester.{Requester}
 use Rattle.protocol.specs.declared.Requester.the-variants.{Board, Port}
 use Rattle.volatile.specs.declared.Record.{Record}
 
--- P − 1, on purpose not by `board-of`
+-- P − 1; not by `board-of`, so that a slip there shows
 abbrev pub last-board : Shape → ℕ
 last-board s = s .boards - 1
 

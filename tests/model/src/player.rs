@@ -71,9 +71,9 @@ impl Player {
             }
             Some(Event::Read { board, cell, n }) => {
                 let [board, cell, n] = [*board, *cell, *n].map(usize::from);
-                let board = Requester::Board(board);
+                let who = Requester::Board(board);
                 let (answer, next) =
-                    module::read(image, self.record, board, cell, n, &mut self.bytes);
+                    module::read(image, self.record, who, cell, n, &mut self.bytes);
                 if answer.code == module::DONE {
                     self.count = n;
                 }
@@ -81,8 +81,8 @@ impl Player {
             }
             Some(Event::Write { board, cell, bytes }) => {
                 let [board, cell] = [*board, *cell].map(usize::from);
-                let board = Requester::Board(board);
-                module::write(image, self.record, board, cell, bytes, k)
+                let who = Requester::Board(board);
+                module::write(image, self.record, who, cell, bytes, k)
             }
             Some(Event::Start { board, bytes }) => {
                 module::start(image, self.record, usize::from(*board), bytes, k)

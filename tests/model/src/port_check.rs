@@ -59,8 +59,8 @@ const SITUATIONS: &[&str] = &[
     "port access: P is 1",
     "port access: P is 16",
     "port access: S below 4",
-    "port write: read by a board",
-    "port write: overwritten by a board",
+    "port write: its block read by a board",
+    "port write: its block written by a board",
     "port write: kept by a commit that P - 1 started",
     "port write: kept by a commit that another board started",
     "port write: rolled back by a fault of P - 1",
@@ -387,7 +387,7 @@ impl Check<'_> {
             }
             _ if answer.code != DONE => {}
             Event::Read { board, cell, .. } => self.note_board(board, cell, &shape, "read"),
-            Event::Write { board, cell, .. } => self.note_board(board, cell, &shape, "overwritten"),
+            Event::Write { board, cell, .. } => self.note_board(board, cell, &shape, "written"),
             Event::Start { .. } if cleared && answer.decided => {
                 self.forget("port write: kept by a commit that P - 1 started");
             }
@@ -410,7 +410,7 @@ impl Check<'_> {
     fn note_board(&mut self, board: u16, cell: u16, shape: &Shape, how: &str) {
         let port = self.written.contains(&(usize::from(cell) >> shape.power));
         if port && usize::from(board) + 1 != shape.boards {
-            let situation = format!("port write: {how} by a board");
+            let situation = format!("port write: its block {how} by a board");
             self.reached.note(&situation);
         }
     }

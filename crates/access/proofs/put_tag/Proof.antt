@@ -10,8 +10,8 @@ use Rattle.access.proofs.put_tag.Tie as tie
 returns : tie.Need-returns
 unfolding tag-store
 returns c =
-    let args = c .before .before .before .args in
-    rw (eq-eqb (args .p .tag) (args .i + 1) (omega (arith, c .if1 .taken))) (makes-none _ _)
+    let args = c .before .before .before .before .args in
+    rw (eq-eqb (args .p .tag) (args .p .board + 1) (omega (arith, c .if1 .taken))) (makes-none _ _)
 
 returns-2 : tie.Need-returns-2
 unfolding tag-store

@@ -12,7 +12,7 @@ use Rattle.protocol.specs.Calls.{Read, refusals, refusal-at, entry-tests, first
 use Rattle.protocol.proofs.Plans.{ranged}
 use Rattle.protocol.proofs.Refusals.{first-held, first-passed}
 use Rattle.entry.specs.Tested.{Entry-passed, entry-says, refused, passed}
-use Rattle.entry.proofs.Laws.{small, if-taken, refused-first}
+use Rattle.entry.proofs.Laws.{same-board, small, if-taken, refused-first}
 use Rattle.admission.specs.Places.{Placed}
 use Rattle.admission.proofs.Tests.{placed, read-two, read-seventeen, read-five, read-eleven, read-last}
 use Rattle.admission.proofs.admit.Statement.{statement}
@@ -59,17 +59,17 @@ returns-3 c =
     refused (read-seventeen (args .who) _ _ _ (known opened) (ok range) over) (λ z. omega arith)
 
 -- and within the port's limit
-short : (c : tie.Else2) →
+within-limit : (c : tie.Else2) →
     let args = c .before .before .before .before .before .before .before .before .before .args in
     over-port-limit (args .who) (args .n) ≡ false
-short c = sym (c .before .over-port-limit .ensures) ∙ c .if2 .left
+within-limit c = sym (c .before .over-port-limit .ensures) ∙ c .if2 .left
 
 returns-4 : tie.Need-returns-4
 returns-4 c =
     let range = c .before .before .before in
     let opened = range .before .before .before in
     let args = opened .before .before .before .before .args in
-    refused (read-five (args .who) _ _ _ (known opened) (ok range) (short (c .before)) (c .if3 .taken))
+    refused (read-five (args .who) _ _ _ (known opened) (ok range) (within-limit (c .before)) (c .if3 .taken))
     (λ z. omega arith)
 
 board-of-requires : tie.Need-board-of-requires
@@ -81,7 +81,7 @@ board-small c =
     let opened = c .before .before .before .before .before .before .before in
     let who = opened .before .before .before .before .args .who in
     let passed = known opened .1 in
-    subst (λ i. i < 16) (ap (λ s. board-of s who) (passed .shaped .shape) ∙ sym (c .board-of .ensures)) (small passed)
+    subst (λ i. i < 16) (same-board who (passed .shaped) (c .board-of .ensures)) (small passed)
 
 locate-requires : tie.Need-locate-requires
 locate-requires c κs =
@@ -97,7 +97,7 @@ returns-5 c =
     let opened = range .before .before .before in
     let args = opened .before .before .before .before .args in
     refused
-    (read-eleven (args .who) _ _ _ (known opened) (ok range) (short (fits .before)) (fits .if3 .left)
+    (read-eleven (args .who) _ _ _ (known opened) (ok range) (within-limit (fits .before)) (fits .if3 .left)
     (located .locate .ensures) (c .if4 .taken))
     (λ z. omega arith)
 
@@ -120,7 +120,7 @@ last c =
     let passed = known opened in
     let member = c .has .ensures ∙ ap (λ g. has g (board .board-of .result)) (c .before .engaged .ensures)
     ∙ ap (has _) (board .board-of .ensures) in (
-      read-last who _ _ _ passed (ok range) (short (fits .before)) (fits .if3 .left) (located .locate .ensures)
+      read-last who _ _ _ passed (ok range) (within-limit (fits .before)) (fits .if3 .left) (located .locate .ensures)
           (fine .if4 .left)
           ∙ ap (λ b. first (test b 13 ∷ [])) (sym member),
       placed _ (board .board-of .ensures) (located .locate .ensures) (passed .1) (ok range) (fits .if3 .left)

@@ -1,6 +1,6 @@
 -- `enter_by` meets its contract: the three tests in their order.
 use Prim.Native.Nat.{_≤_, _<_}
-use mathlib.Core.Path.{_≡_, sym, _∙_, ap, subst}
+use mathlib.Core.Path.{_≡_, sym, _∙_, subst}
 use mathlib.Core.Bool.{true, false}
 use native.Mathlib.Omega.{arith}
 use denote.Ref.{now}
@@ -10,7 +10,7 @@ use Rattle.volatile.specs.Volatile.{bad-record}
 use Rattle.layout.specs.Headers.{Shaped}
 use Rattle.layout.proofs.Laws.{bounded, headed, unheaded}
 use Rattle.entry.specs.Tested.{refused, passed}
-use Rattle.entry.proofs.Laws.{entry-eleven, entry-twelve, entry-one, entry-none}
+use Rattle.entry.proofs.Laws.{entry-eleven, entry-twelve, entry-one, entry-none, same-board}
 use Rattle.entry.proofs.enter_by.Statement.{statement}
 use Rattle.entry.proofs.enter_by.Tie as tie
 
@@ -45,8 +45,7 @@ board-same : (c : tie.After-board-of) →
     board-of (shape-of (now (args .image))) (args .who) ≡ c .board-of .result
 board-same c =
     let opened = c .before .before .before .before .before in
-    let who = opened .before .before .before .before .args .who in
-    ap (λ s. board-of s who) (known opened .1 .shape) ∙ sym (c .board-of .ensures)
+    same-board (opened .before .before .before .before .args .who) (known opened .1) (c .board-of .ensures)
 
 board-of-requires : tie.Need-board-of-requires
 board-of-requires c κs = known (c .before .before .before .before) .1 .allowed-shape

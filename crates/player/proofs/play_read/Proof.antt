@@ -1,9 +1,9 @@
 -- `play_read` meets its contract: the bytes answered stand at the start of the buffer.
 use Prim.Native.Nat.{_-_}
 use native.Mathlib.Omega.{arith}
+use Rattle.protocol.specs.declared.Requester.the-variants.{Board}
 use Rattle.text.specs.Turns.{play, letter-of}
 use Rattle.turns.proofs.Laws.{few-answered, take-most}
-use Rattle.protocol.specs.declared.Requester.the-variants.{Board}
 use Rattle.turns.proofs.Turning.{read-turn}
 use borrow.Author.Needs.{needs}
 use Rattle.player.proofs.play_read.Statement.{statement}

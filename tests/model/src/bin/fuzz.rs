@@ -47,8 +47,8 @@ fn compare(program: &str, count: u64, seed: u64, folder: &Path) -> Result<u64, S
     let failed = |error: io::Error| format!("{}: {error}", folder.display());
     fs::create_dir_all(folder).map_err(failed)?;
     let mut lines = 0;
-    let mut foretold = forecast_check::reached();
-    let mut ported = port_check::reached();
+    let mut forecasts_reached = forecast_check::reached();
+    let mut ports_reached = port_check::reached();
     for i in 0..count {
         let file_seed = seed.wrapping_mul(1_000_003).wrapping_add(i);
         let events = match i {
@@ -62,8 +62,8 @@ fn compare(program: &str, count: u64, seed: u64, folder: &Path) -> Result<u64, S
         };
         let expected = player::answers(&events);
         let ledger = check::file(&events);
-        let forecasts = forecast_check::file(&events, file_seed, &mut foretold);
-        let ports = port_check::file(&events, file_seed, &mut ported);
+        let forecasts = forecast_check::file(&events, file_seed, &mut forecasts_reached);
+        let ports = port_check::file(&events, file_seed, &mut ports_reached);
         let keep = |name: &str, bytes: &[u8]| fs::write(folder.join(name), bytes).map_err(failed);
         let (given, lengths) = match &pieces {
             None => ("", String::new()),
