@@ -15,9 +15,10 @@ use Rattle.protocol.specs.Accesses.{board-of}
 use Rattle.protocol.specs.Calls.{Request, Read, Write, Test, test, first, refusals, refusal-at, over-port-limit}
 use Rattle.protocol.specs.Calls.{entry-tests, read-tests, write-tests, plan, record-refused, perform}
 use Rattle.protocol.specs.Calls.{refused as refuse}
-use Rattle.protocol.specs.Ledger.{refused, done, cut, Verdict, Ledger, update, effect, commit-effect}
+use Rattle.protocol.specs.Ledger.{refused, done, cut, Verdict, Ledger, noted, update, effect, commit-effect}
 use Rattle.protocol.specs.Ledger.{all-undone}
-use Rattle.protocol.specs.Port.{last-board, before-17, passes-to-17, As-last-board, Port-as-last-board}
+use Rattle.protocol.specs.Port.{last-board, before-17, passes-to-17, Noted-for-board, As-last-board}
+use Rattle.protocol.specs.Port.{Port-as-last-board}
 use Rattle.protocol.specs.declared.Shape.{Shape}
 use Rattle.protocol.specs.declared.Requester.{Requester}
 use Rattle.protocol.specs.declared.Requester.the-variants.{Board, Port}
@@ -26,6 +27,15 @@ use Rattle.protocol.proofs.Bridge.{limits, order-sound}
 use Rattle.protocol.proofs.Refusals.{Numbered, first-stops, first-goes-on, Clear, not-held, other-number}
 use Rattle.protocol.proofs.Refusals.{first-clear}
 use Rattle.protocol.proofs.Outcomes.{status-test, turned-down}
+
+-- a board is its own
+read-noted : (a n room k : ℕ) → Noted-for-board (λ who. Read who a n room) k
+unfolding board-of update effect noted
+read-noted a n room k s i l = refl
+
+write-noted : (a : ℕ) (bytes : List ℕ) (k : ℕ) → Noted-for-board (λ who. Write who a bytes) k
+unfolding board-of update effect noted
+write-noted a bytes k s i l = refl
 
 -- a test of 17 after others: it answers where it holds and none of them does; else the number is that without it
 between : (before rest : List Test) → Numbered before → (b : Bool)
@@ -44,7 +54,7 @@ between before rest numbered true =
 -- ---- reads and writes alike
 
 -- What is needed of an access of n cells from a on: the tests that follow 17, which know the board only and have the
--- numbers 5, 11 and 13; and that nothing but 17 tells the port from board P − 1.
+-- numbers 5, 11 and 13; that a board's is noted for it; and that nothing but 17 tells the port from board P − 1.
 record Alike-but-17 (a n : ℕ) (by : Requester → Request) (image : List ℕ) (r : Record) (k : ℕ) : Type 0 where
   rest : ℕ → List Test
   tests : (who : Requester)
@@ -54,6 +64,7 @@ record Alike-but-17 (a n : ℕ) (by : Requester → Request) (image : List ℕ) 
   kept : record-refused r (by Port) ≡ r
   same : refusal-at image r (by Port) ≡ refusal-at image r (by (Board (last-board (shape-of image))))
       → perform image r (by Port) k ≡ perform image r (by (Board (last-board (shape-of image)))) k
+  own-note : Noted-for-board by k
   effects : (s : Shape) (l : Ledger) → effect s (by Port) k l ≡ effect s (by (Board (last-board s))) k l
   commits : (s : Shape) (l : Ledger) → commit-effect s (by Port) k l ≡ commit-effect s (by (Board (last-board s))) k l
 
@@ -74,9 +85,9 @@ module _ {a n : ℕ} {by : Requester → Request} {image : List ℕ} {r : Record
       eqb-false _ m
       (status-test (λ n. eqb n m) at-done at-cut image r (by who) k ∙ ap (λ n. eqb n m) (h .tests who) ∙ other)
 
-  boards : (i : ℕ) → perform image r (by (Board i)) k .reply .answer .status ≢ 17
+  boards-never-17 : (i : ℕ) → perform image r (by (Board i)) k .reply .answer .status ≢ 17
   unfolding board-of over-port-limit entry-tests
-  boards i = never (Board i) 17 refl refl (first-clear {p = λ n. eqb n 17} refl others)
+  boards-never-17 i = never (Board i) 17 refl refl (first-clear {p = λ n. eqb n 17} refl others)
     where
       others : All (Clear (λ n. eqb n 17)) (before-17 image r i a n ++ test false 17 ∷ h .rest i)
       others =
@@ -103,9 +114,9 @@ module _ {a n : ℕ} {by : Requester → Request} {image : List ℕ} {r : Record
       (decide limited)
 
   -- a header in order has P above 0
-  no-bad-board : perform image r (by Port) k .reply .answer .status ≢ 1
+  port-never-1 : perform image r (by Port) k .reply .answer .status ≢ 1
   unfolding board-of over-port-limit entry-tests first
-  no-bad-board =
+  port-never-1 =
       never Port 1 refl refl
       (⊎-elim
       (λ (e : in-order 0 image ≡ true). first-clear {p = λ n. eqb n 1} refl (others e))
@@ -129,7 +140,13 @@ module _ {a n : ℕ} {by : Requester → Request} {image : List ℕ} {r : Record
   ledger s cut l = ap all-undone (h .commits s l)
 
   as-last-board : As-last-board a n by image r k
-  as-last-board = record { port = port; boards = boards; no-bad-board = no-bad-board; ledger = ledger }
+  as-last-board = record {
+    port = port;
+    boards-never-17 = boards-never-17;
+    port-never-1 = port-never-1;
+    own-note = h .own-note;
+    ledger = ledger;
+  }
 
 -- ---- a read, a write
 
@@ -145,6 +162,7 @@ read-alike a n room image r k =
           also (other-number five) (also (other-number eleven) (also (other-number thirteen) none));
       kept = refl;
       same = λ e. rw e;
+      own-note = read-noted a n room k;
       effects = λ s l. refl;
       commits = λ s l. refl;
     }
@@ -160,6 +178,7 @@ write-alike a bytes image r k =
       numbers = λ i p five eleven thirteen. also (other-number eleven) (also (other-number thirteen) none);
       kept = refl;
       same = λ e. rw e;
+      own-note = write-noted a bytes k;
       effects = λ s l. refl;
       commits = λ s l. refl;
     }

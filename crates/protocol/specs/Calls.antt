@@ -81,11 +81,14 @@ entry-tests image r i =
     let p = shape-of image .boards in
     test (not (in-order 0 image)) 11 ∷ test (bad-record p r) 12 ∷ test (leb p i) 1 ∷ []
 
+-- of an access: 2, and 17 right after it
+abbrev pub range-tests : Shape → Requester → ℕ → ℕ → List Test
+range-tests s who a n = test (bad-range s a n) 2 ∷ test (over-port-limit who n) 17 ∷ []
+
 unfoldable pub read-tests : Shape → Memory → Record → Requester → ℕ → ℕ → ℕ → List Test
 read-tests s m r who a n room =
-    test (bad-range s a n) 2
-    ∷ test (over-port-limit who n) 17
-    ∷ test (ltb room n) 5
+    range-tests s who a n
+    ++ test (ltb room n) 5
     ∷ test (anyOf (ltb (s .boards)) (tags-of s m a n)) 11
     ∷ test (has (engaged r) (board-of s who)) 13
     ∷ []
@@ -93,9 +96,8 @@ read-tests s m r who a n room =
 unfoldable pub write-tests : Shape → Memory → Record → Requester → ℕ → ℕ → List Test
 write-tests s m r who a n =
     let tags = tags-of s m a n in
-    test (bad-range s a n) 2
-    ∷ test (over-port-limit who n) 17
-    ∷ test (anyOf (ltb (s .boards)) tags) 11
+    range-tests s who a n
+    ++ test (anyOf (ltb (s .boards)) tags) 11
     ∷ test (has (engaged r) (board-of s who) || anyOf (tagged-in (engaged r)) tags) 13
     ∷ []
 
