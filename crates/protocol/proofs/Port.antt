@@ -28,7 +28,7 @@ use Rattle.protocol.proofs.Refusals.{Numbered, first-stops, first-goes-
 use Rattle.protocol.proofs.Refusals.{first-clear}
 use Rattle.protocol.proofs.Outcomes.{status-test, turned-down}
 
--- a board is its own
+-- a read and a write of board i are noted for i
 read-noted : (a n room k : ℕ) → Noted-for-board (λ who. Read who a n room) k
 unfolding board-of update effect noted
 read-noted a n room k s i l = refl

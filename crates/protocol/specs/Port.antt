@@ -1,5 +1,5 @@
 -- An access by the port beside the same access by board P − 1 (document 02, Req 03), for any image, record, arguments
--- and budget.
+-- and budget; and that a board's access is noted for that board.
 use Prim.Native.Nat.{ℕ, _-_}
 use mathlib.Core.Path.{_≡_}
 use mathlib.Core.Bool.{Bool, _&&_, cond}
@@ -27,7 +27,7 @@ before-17 image r i a n = entry-tests image r i ++ test (bad-range (shape-of ima
 abbrev pub passes-to-17 : List ℕ → Record → ℕ → ℕ → ℕ → Bool
 passes-to-17 image r i a n = eqb (first (before-17 image r i a n)) 0
 
--- the boards of the notes, newest first; a done access of board i is noted for i
+-- the boards of the notes, newest first; a done access of board i is noted for i, so that a slip in `board-of` shows
 abbrev pub boards-noted : Ledger → List ℕ
 boards-noted l = map (λ note. note .board) (l .notes)
 
