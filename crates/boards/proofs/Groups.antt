@@ -1,9 +1,9 @@
--- Sets of boards as numbers, chains of dependences, the groups that follow them, and rows.
+-- Sets of boards as numbers, chains of dependences, counts, the groups that follow chains, and rows.
 use Prim.Native.Nat.{ℕ, zero, suc, _+_, _*_, _/_, _%_, _^_, _≤_, _<_}
 use mathlib.Core.Path.{_≡_, refl, sym, _∙_, ap, subst, fun-ext}
-use mathlib.Core.Bool.{Bool, true, false, _&&_, _||_, not, cond}
+use mathlib.Core.Bool.{Bool, true, false, _&&_, _||_, not, cond, or-false}
 use mathlib.Core.List.{List, [], _∷_}
-use mathlib.Core.Logic.{_⊎_, inl, inr, ⊎-elim, _↔_}
+use mathlib.Core.Logic.{_⊎_, inl, inr, ⊎-elim, _↔_, _≢_}
 use lib.Dec.{eqb, ltb, leb}
 use lib.ListN.{length, getD, length-append, List·getD-append, List·getD-eq-default}
 use lib.Seq.{getD-at}
@@ -13,6 +13,7 @@ use native.Mathlib.Nat.{pow-suc, div-one}
 use native.Mathlib.Numerals.{one-add}
 use borrow.Author.Tests.{ltb-true, ltb-false, lt-leb, eq-eqb, ne-eqb, eqb-true, eqb-false}
 use Rattle.boards.specs.Lists.{for}
+unfoldable pub use Rattle.boards.specs.Lists.{count}
 use Rattle.boards.specs.Boards.{has, mask, setOf, single, with-board, meets, beyond, Links, unlinked, link}
 use Rattle.boards.specs.Boards.{unlink}
 use Rattle.boards.specs.Boards.{pass, passes, commit-group, fault-group, Chain, here, step, Groups-follow-chains}
@@ -233,12 +234,7 @@ module _ {d : Links} {p : ℕ → Bool} where
       let t : p j ≡ false = refute (p j) (λ h. clash (f .onto i j h e) q) in
       step (true-unlink p d i j q t e) (chain-outside-backward f r t)
 
--- ---- groups
-
--- how many numbers below n have p
-unfoldable pub count : ℕ → (ℕ → Bool) → ℕ
-count zero p = 0
-count (suc n) p = count n p + cond (p n) 1 0
+-- ---- counts
 
 pub count-le : (n : ℕ) (p : ℕ → Bool) → count n p ≤ n
 unfolding count
@@ -266,17 +262,60 @@ larger-count (suc n) p q f =
           (below-suc j n l),
     )
 
+pub count-same : (n : ℕ) (p q : ℕ → Bool) → ((i : ℕ) → i < n → p i ≡ q i) → count n p ≡ count n q
+unfolding count
+count-same zero p q h = refl
+count-same (suc n) p q h = rw (h n (omega arith), count-same n p q (λ i l. h i (omega arith)))
+
+pub count-none : (n : ℕ) (p : ℕ → Bool) → ((i : ℕ) → p i ≡ false) → count n p ≡ 0
+unfolding count
+count-none zero p h = refl
+count-none (suc n) p h = rw (h n, count-none n p h)
+
+pub count-some : (n : ℕ) (p : ℕ → Bool) (i : ℕ) → i < n → p i ≡ true → 0 < count n p
+unfolding count
+count-some zero p i l e = absurd (omega arith)
+count-some (suc n) p i l e =
+    ⊎-elim
+    (λ (k : i < n). omega (arith, count-some n p i k e))
+    (λ (k : i ≡ n). rw (ap p (sym k) ∙ e) (omega arith))
+    (below-suc i n l)
+
+-- one number more, below n
+pub count-one-more : (n : ℕ) (p q : ℕ → Bool) (i : ℕ) → i < n → p i ≡ false → q i ≡ true
+    → ((j : ℕ) → j < n → i ≢ j → q j ≡ p j) → count n q ≡ suc (count n p)
+unfolding count
+count-one-more zero p q i l without within same = absurd (omega arith)
+count-one-more (suc n) p q i l without within same =
+    ⊎-elim
+    (λ (k : i < n).
+    rw (same n (omega arith) (omega arith), count-one-more n p q i k without within (λ j b e. same j (omega arith) e))
+    (omega arith))
+    (λ (k : i ≡ n).
+    let before = count-same n q p (λ j b. same j (omega arith) (omega arith)) in
+    rw (before, ap q (sym k) ∙ within, ap p (sym k) ∙ without) (omega arith))
+    (below-suc i n l)
+
+-- a set with one board more
+pub count-with : (p g i : ℕ) → p ≤ 16 → i < p → has g i ≡ false → count p (has (with-board g i)) ≡ suc (count p (has g))
+count-with p g i most l without =
+    count-one-more p (has g) (has (with-board g i)) i l without
+    (has-with g i i (omega arith) ∙ or-right (has g i) (eqb-same i))
+    (λ j b e. has-with g i j (omega arith) ∙ ap (λ t. has g j || t) (ne-eqb i j e) ∙ or-false (has g j))
+
+-- ---- groups
+
 module _ (d : Links) (g : ℕ) where
-  pass-has : (j : ℕ) → j < 16 → has (pass d g) j ≡ has g j || meets g (λ i. d i j)
+  pub pass-has : (j : ℕ) → j < 16 → has (pass d g) j ≡ has g j || meets g (λ i. d i j)
   unfolding pass
   pass-has j l = has-mask 16 (λ j. has g j || meets g (λ i. d i j)) j l
 
-  pass-small : pass d g < 2 ^ 16
+  pub pass-small : pass d g < 2 ^ 16
   unfolding pass
   pass-small = mask-below 16 (λ j. has g j || meets g (λ i. d i j))
 
   -- a pass keeps the boards that there are; with no more boards it changes nothing
-  pass-keeps : g < 2 ^ 16 → (j : ℕ) → has g j ≡ true → has (pass d g) j ≡ true
+  pub pass-keeps : g < 2 ^ 16 → (j : ℕ) → has g j ≡ true → has (pass d g) j ≡ true
   pass-keeps s j h = pass-has j (has-below 16 g j s h) ∙ true-or (meets g (λ i. d i j)) h
 
   pass-stays : g < 2 ^ 16 → count 16 (has (pass d g)) ≤ count 16 (has g) → pass d g ≡ g

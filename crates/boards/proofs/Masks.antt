@@ -8,6 +8,7 @@ use mir.Syntax.{w16}
 use mir.Val.{Fits}
 use lib.Dec.{leb, eqb, lit<, eqb·zero-suc, eqb·suc-zero, eqb·suc-suc}
 use lib.Bits.{bitAnd, bitOr, and-step, or-step, or-lt, and-lt}
+use lib.Count.{trailingZeros, under}
 use lib.ListN.{length, getD, set, drop, length-set}
 use lib.Seq.{ext-getD, getD-set-same, getD-set-other, drop-cons, set-at, append-snoc}
 use lib.Pow.{shl-exact, pow-pos, pow-lt}
@@ -84,6 +85,18 @@ has-power (suc i) (suc j) =
     let high : 2 ^ suc i / 2 ≡ 2 ^ i = omega (arith, pow-suc 2 i) in
     ap (λ x. has x j) high ∙ has-power i j ∙ sym (eqb·suc-suc i j)
 
+-- the number of trailing zeros of a set that is not empty is a board of it
+pub has-lowest : (n g : ℕ) → 0 < g → g < 2 ^ n → has g (trailingZeros n g) ≡ true
+unfolding has trailingZeros
+has-lowest zero g p s = absurd (omega arith)
+has-lowest (suc n) g p s =
+    go (g % 2) refl (λ e. has-lowest n (g / 2) (omega arith) (omega (arith, pow-suc 2 n)))
+  where
+    go : (d : ℕ) → g % 2 ≡ d → (g % 2 ≡ 0 → has (g / 2) (trailingZeros n (g / 2)) ≡ true) →
+        has g (under d (trailingZeros n (g / 2))) ≡ true
+    go zero e higher = higher e
+    go (suc d) e higher = eq-eqb (g % 2) 1 (omega arith)
+
 -- ---- sets
 
 -- a number below 2 ^ n is the set of its boards
@@ -129,6 +142,12 @@ and-within g h s t =
     (sym (has-and g h j) ∙ ap (λ x. has x j) (eqb-true (bitAnd g h) g e))))
     (λ e. eq-eqb (bitAnd g h) g (has-ext 16 _ _ (and-lt 16 g h s t) s
     (λ j l. has-and g h j ∙ implied (has g j) (has h j) .1 (every-at 16 _ e j l))))
+
+-- the boards of one set that are not in another, by a complement
+pub and-minus : (g h : ℕ) → g < 2 ^ 16 → h < 2 ^ 16 → bitAnd g (65535 - h) ≡ setOf (λ j. has g j && not (has h j))
+and-minus g h s t =
+    mask-told 16 _ _ (and-lt 16 g (65535 - h) s (omega arith))
+    (λ j l. has-and g (65535 - h) j ∙ ap (λ b. has g j && b) (has-not 16 h j t l))
 
 -- the boards of h joined to g, or not
 pub or-joined : (g h : ℕ) → g < 2 ^ 16 → h < 2 ^ 16 → bitOr g h ≡ joined true (has h) g
@@ -236,9 +255,9 @@ pub emptied-other : (row a g : ℕ) → row < 2 ^ 16 → g < 2 ^ 16 → has g a 
     bitAnd row (65535 - g) ≡ setOf (unlink (has g) (λ a. has row) a)
 unfolding unlink
 emptied-other row a g s t e =
-    mask-told 16 _ _ (and-lt 16 row (65535 - g) s (omega arith))
-    (λ j l. has-and row (65535 - g) j ∙ ap (λ b. has row j && b) (has-not 16 g j t l)
-    ∙ and-comm (has row j) (not (has g j)) ∙ sym (ap (λ t. not t && (not (has g j) && has row j)) e))
+    and-minus row g s t
+    ∙ mask-ext 16 _ _ (λ j l. and-comm (has row j) (not (has g j))
+    ∙ sym (ap (λ t. not t && (not (has g j) && has row j)) e))
 
 -- an array whose first n elements are f 0, f 1, .. and whose others are those of xs
 abbrev pub filled : (ℕ → ℕ) → List ℕ → ℕ → List ℕ

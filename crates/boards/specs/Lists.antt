@@ -1,5 +1,5 @@
 -- Loops and tests over numbers and lists, by which the definitions say "for each".
-use Prim.Native.Nat.{ℕ, zero, suc}
+use Prim.Native.Nat.{ℕ, zero, suc, _+_}
 use mathlib.Core.Bool.{Bool, true, false, _&&_, _||_, cond}
 use mathlib.Core.List.{List, [], _∷_, _++_}
 
@@ -21,6 +21,11 @@ every (suc n) p = every n p && p n
 unfoldable pub any : ℕ → (ℕ → Bool) → Bool
 any zero p = false
 any (suc n) p = any n p || p n
+
+-- how many numbers below n have p
+unfoldable pub count : ℕ → (ℕ → Bool) → ℕ
+count zero p = 0
+count (suc n) p = count n p + cond (p n) 1 0
 
 -- whether p holds of some element
 unfoldable pub anyOf : {X : Type 0} → (X → Bool) → List X → Bool

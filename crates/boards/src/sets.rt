@@ -1,8 +1,9 @@
 // A set of boards in sixteen bits: bit j for board j; tags.
 use crate::Writer;
 ghost use mathlib.Core.Path.{_≡_};
+ghost use mathlib.Core.Bool.{true, _&&_, not};
 ghost use Prim.Native.Nat.{_<_};
-ghost use Rattle.boards.specs.Boards.{has, single, with-board, meets, within, beyond, tag-of, tagged-in};
+ghost use Rattle.boards.specs.Boards.{has, setOf, single, with-board, meets, within, beyond, tag-of, tagged-in};
 ghost use Rattle.boards.specs.Rows.{joined};
 
 pub fn has(g: u16, j: u8) -> bool
@@ -37,6 +38,21 @@ pub fn within(g: u16, h: u16) -> bool
     ensures { λ r. ⌜ r ≡ within g h ⌝ }
 {
     g & h == g
+}
+
+// The boards of g that are not in h.
+pub fn minus(g: u16, h: u16) -> u16
+    ensures { λ r. ⌜ r ≡ setOf (λ j. has g j && not (has h j)) ⌝ }
+{
+    g & !h
+}
+
+// A board of g: the lowest.
+pub fn some_board(g: u16) -> u8
+    requires { ⌜ 0 < g ⌝ }
+    ensures { λ r. ⌜ (r < 16) × (has g r ≡ true) ⌝ }
+{
+    u16::trailing_zeros(g) as u8
 }
 
 // The boards of g, with those of h if the test holds.

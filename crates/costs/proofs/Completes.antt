@@ -14,7 +14,7 @@ use Rattle.boards.specs.Boards.{has, with-board, beyond}
 use Rattle.boards.proofs.Basics.{decide, clash, true-and, and-false, and-true, or-right, true-or, or-false, false-or}
 use Rattle.boards.proofs.Basics.{test-ext, eqb-same, not-true, not-false, All, none, also, all-append}
 use Rattle.boards.proofs.Basics.{all-cond, all-for, all-map, row-fits}
-use Rattle.boards.proofs.Groups.{count, has-with, has-zero}
+use Rattle.boards.proofs.Groups.{count, has-with, has-zero, count-one-more}
 use Rattle.volatile.specs.Volatile.{engaged, commit-of, opened, bad-record, bad-commit, bad-closed}
 use Rattle.volatile.specs.declared.Record.{Record}
 use Rattle.volatile.proofs.Order.{orderly}
@@ -28,7 +28,7 @@ use Rattle.protocol.proofs.Refusals.{begun, start-passed}
 use Rattle.costs.specs.Forecasts.{those}
 use Rattle.costs.specs.Claims.{Answered-call, played, is-done, of-commit, ends-commit, total-cost, supplied}
 use Rattle.costs.specs.Claims.{commit-calls, Commit-completes}
-use Rattle.costs.proofs.Counted.{length-those, figure, commit-counted, count-one-more}
+use Rattle.costs.proofs.Counted.{length-those, figure, commit-counted}
 use Rattle.costs.proofs.Opened.{called, Grouped, Open}
 use Rattle.costs.proofs.Given.{Giving, own-call, acks-less, some-answer, some-acks, some-open, all-count}
 use Rattle.costs.proofs.Given.{all-answer, acknowledge-giving}

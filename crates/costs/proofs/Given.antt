@@ -13,6 +13,7 @@ use Rattle.boards.specs.Lists.{anyOf}
 use Rattle.boards.specs.Boards.{has, with-board, tagged-in}
 use Rattle.boards.proofs.Basics.{decide, true-and, or-true, or-right, true-or, test-ext, row-fits}
 use Rattle.boards.proofs.Groups.{below-or, count, larger-count, has-with, has-below, has-ext, mask-below}
+use Rattle.boards.proofs.Groups.{count-same, count-with}
 use Rattle.volatile.specs.Volatile.{engaged, commit-of, acknowledge}
 use Rattle.volatile.specs.declared.Record.{Record}
 use Rattle.protocol.specs.Image.{Memory, Tags, Tentative, Put, rank, after, view}
@@ -26,7 +27,7 @@ use Rattle.protocol.proofs.Plans.{given-inside, inside-indecisive, decided-afte
 use Rattle.protocol.proofs.Refusals.{begun, acknowledge-passed}
 use Rattle.costs.specs.Claims.{is-done, commit-request, of-commit}
 use Rattle.costs.proofs.Answers.{done-answer, done-finished, cut-nine, done-or-cut}
-use Rattle.costs.proofs.Counted.{deciding-cost, figure, count-same, count-with}
+use Rattle.costs.proofs.Counted.{deciding-cost, figure}
 use Rattle.costs.proofs.Kept.{tags-kept, placing-apart}
 use Rattle.costs.proofs.Opened.{called, Grouped, Open, gives, ends, stops, Turned}
 

@@ -8,6 +8,7 @@ use borrow.Author.Tests.{eq-eqb}
 use Rattle.boards.specs.Boards.{has, commit-group}
 use Rattle.boards.proofs.Basics.{clash}
 use Rattle.boards.proofs.Groups.{has-zero, commit-group-self, commit-group-small, commit-group-within}
+use Rattle.boards.proofs.Groups.{count-none, count-some}
 use Rattle.volatile.specs.Volatile.{depends, opened}
 use Rattle.volatile.specs.declared.Record.{Record}
 use Rattle.volatile.proofs.Order.{orderly, rows-within}
@@ -19,7 +20,6 @@ use Rattle.protocol.proofs.Refusals.{Entered, begun, first-passed}
 use Rattle.costs.specs.Forecasts.{commit-cost, commit-tests, commit-forecast}
 use Rattle.costs.specs.Claims.{commit-request}
 use Rattle.costs.proofs.Answers.{answered-status, answered-taken}
-use Rattle.costs.proofs.Counted.{count-none, count-some}
 use Rattle.costs.proofs.Opened.{Grouped}
 use Rattle.costs.proofs.Given.{Giving}
 

@@ -1,48 +1,166 @@
--- Passes of the search: the boards gathered so far, and when the group is found.
-use Prim.Native.Nat.{ℕ, _+_, _^_, _≤_, _<_}
-use mathlib.Core.Path.{_≡_, refl, sym, _∙_, ap}
-use mathlib.Core.Bool.{Bool, true, _&&_, _||_, or-assoc, or-false}
+-- Passes of the search: rows and columns as sets, what a pass adds, and when the group is found.
+use Prim.Native.Nat.{ℕ, suc, _+_, _^_, _≤_, _<_}
+use mathlib.Core.Path.{_≡_, refl, sym, _∙_, ap, ap₂}
+use mathlib.Core.Bool.{Bool, true, false, _&&_, _||_, not, or-assoc, or-false}
+use mathlib.Core.Logic.{⊎-elim, _≢_}
+use lib.Dec.{eqb}
+use native.Mathlib.Omega.{arith}
 use native.Mathlib.Numerals.{add-one}
 use native.Mathlib.Decide.{le-ind}
 use borrow.Author.Tests.{eqb-true}
-use Rattle.boards.specs.Lists.{any}
-use Rattle.boards.specs.Boards.{has, setOf, single, meets, Links, pass, passes, commit-group}
-use Rattle.boards.specs.Rows.{turned, joined}
-use Rattle.boards.proofs.Basics.{and-true, true-and, test-ext, eqb-same, any-some, some-any}
-use Rattle.boards.proofs.Groups.{has-mask, has-single}
+use Rattle.boards.specs.Lists.{any, count}
+use Rattle.boards.specs.Boards.{has, setOf, single, with-board, meets, Links, pass, passes, commit-group}
+use Rattle.boards.specs.Rows.{joined}
+use Rattle.boards.proofs.Basics.{decide, clash, and-true, true-and, or-true, true-or, or-right, not-true, test-ext}
+use Rattle.boards.proofs.Basics.{eqb-same, none-any, any-some, some-any}
+use Rattle.boards.proofs.Groups.{has-zero, has-mask, has-single, has-with, has-below, has-ext, mask-below, meets-yes}
+use Rattle.boards.proofs.Groups.{pass-has, pass-small, pass-keeps, below-or, larger-count, count-none, count-with}
 use Rattle.boards.proofs.Masks.{mask-told, mask-ext}
+use Rattle.groups.specs.Search.{with-rows, Under-way}
+use Rattle.groups.specs.declared.Progress.{Progress}
 
--- the boards of g, with those of p a for each a below n of which t holds
-abbrev pub gathered : ℕ → (ℕ → Bool) → (ℕ → ℕ → Bool) → ℕ → ℕ
-gathered g t p n = setOf (λ j. has g j || any n (λ a. t a && p a j))
+-- ---- columns, board by board
 
-module _ (g : ℕ) (t : ℕ → Bool) (p : ℕ → ℕ → Bool) where
-  pub gathered-none : g < 2 ^ 16 → g ≡ gathered g t p 0
+-- the boards below n of which t holds
+abbrev pub listed : (ℕ → Bool) → ℕ → ℕ
+listed t n = setOf (λ j. any n (λ b. t b && eqb b j))
+
+module _ (t : ℕ → Bool) where
+  pub listed-none : 0 ≡ listed t 0
   unfolding any
-  gathered-none s = mask-told 16 g _ s (λ j l. sym (or-false (has g j)))
+  listed-none = mask-told 16 0 _ (omega arith) (λ j l. has-zero j)
 
-  pub gathered-more : (n : ℕ) → joined (t n) (p n) (gathered g t p n) ≡ gathered g t p (n + 1)
+  pub listed-more : (n : ℕ) → joined (t n) (has (single n)) (listed t n) ≡ listed t (n + 1)
   unfolding any joined
-  gathered-more n =
-      mask-ext 16 _ _ (λ j l. ap (λ b. b || (t n && p n j)) (has-mask 16 _ j l) ∙ or-assoc (has g j) _ _
-      ∙ ap (λ m. has g j || any m (λ a. t a && p a j)) (sym (add-one n)))
+  listed-more n =
+      mask-ext 16 _ _ (λ j l. ap₂ (λ x y. x || (t n && y)) (has-mask 16 _ j l) (has-single n j l)
+      ∙ ap (λ m. any m (λ b. t b && eqb b j)) (sym (add-one n)))
 
--- all rows gathered make a pass along the rows; all boards whose row shares a board with g make one against them
-pub gathered-forth : (d : Links) (g : ℕ) → gathered g (has g) d 16 ≡ pass d g
-unfolding pass
-gathered-forth d g = refl
+  pub listed-all : listed t 16 ≡ setOf t
+  listed-all =
+      mask-ext 16 _ _ (λ j l. test-ext _ _
+      (λ e.
+      let (b, k, both) = any-some 16 (λ b. t b && eqb b j) e in
+      let (holds, own) = and-true (t b) (eqb b j) both in
+      ap t (sym (eqb-true b j own)) ∙ holds)
+      (λ e. some-any 16 (λ b. t b && eqb b j) j l (true-and e (eqb-same j))))
 
-pub gathered-back : (d : Links) (g : ℕ) →
-    gathered g (λ a. meets g (d a)) (λ a. has (single a)) 16 ≡ pass (turned true d) g
-unfolding pass turned
-gathered-back d g =
-    mask-ext 16 _ _ (λ j l. ap (λ b. has g j || b) (test-ext _ _
-    (λ e.
-    let (a, k, both) = any-some 16 (λ a. meets g (d a) && has (single a) j) e in
-    let (shares, own) = and-true (meets g (d a)) (has (single a) j) both in
-    ap (λ x. meets g (d x)) (sym (eqb-true a j (sym (has-single a j l) ∙ own))) ∙ shares)
-    (λ e. some-any 16 (λ a. meets g (d a) && has (single a) j) j l
-    (true-and e (has-single j j l ∙ eqb-same j)))))
+-- to join a set of boards by its bits or by its test is the same
+pub joined-set : (t : Bool) (p : ℕ → Bool) (g : ℕ) → joined t (has (setOf p)) g ≡ joined t p g
+unfolding joined
+joined-set t p g = mask-ext 16 _ _ (λ j l. ap (λ b. has g j || (t && b)) (has-mask 16 p j l))
+
+-- ---- sets within sets
+
+-- a board of h without g is in h and not in g
+pub left-board : (g h a : ℕ) → a < 16 → has (setOf (λ j. has h j && not (has g j))) a ≡ true →
+    (has h a ≡ true) × (has g a ≡ false)
+left-board g h a l e =
+    let (in-h, out) = and-true (has h a) (not (has g a)) (sym (has-mask 16 _ a l) ∙ e) in
+    (in-h, not-true (has g a) out)
+
+module _ (g h : ℕ) (s : g < 2 ^ 16) (t : h < 2 ^ 16) (inside : (j : ℕ) → has g j ≡ true → has h j ≡ true) where
+  -- where h without g is empty, g and h are the same
+  pub none-left : 0 ≡ setOf (λ j. has h j && not (has g j)) → g ≡ h
+  none-left e =
+      has-ext 16 g h s t
+      (λ j l. test-ext _ _ (inside j)
+      (λ in-h. ⊎-elim
+      (λ in-g. in-g)
+      (λ out. clash (true-and in-h (ap not out)) (sym (has-mask 16 _ j l) ∙ ap (λ x. has x j) (sym e) ∙ has-zero j))
+      (decide (has g j))))
+
+  -- a proper subset has fewer boards
+  pub fewer : g ≢ h → count 16 (has g) < count 16 (has h)
+  fewer other =
+      let larger = larger-count 16 (has g) (has h) inside in
+      ⊎-elim
+      (λ l. l)
+      (λ l. absurd (other (has-ext 16 g h s t (larger .1 l))))
+      (below-or (count 16 (has g)) (count 16 (has h)))
+
+-- ---- rows added
+
+module _ (d : Links) where
+  pub rows-none : (m : ℕ) → m < 2 ^ 16 → m ≡ with-rows d m 0
+  unfolding with-rows
+  rows-none m s =
+      mask-told 16 m _ s (λ j l. sym (ap (λ b. has m j || b) (none-any 16 (λ i. has 0 i && d i j)
+      (λ i k. ap (λ b. b && d i j) (has-zero i))) ∙ or-false (has m j)))
+
+  pub rows-more : (m g a : ℕ) → a < 16 → joined true (d a) (with-rows d m g) ≡ with-rows d m (with-board g a)
+  unfolding with-rows joined
+  rows-more m g a l =
+      mask-ext 16 _ _ (λ j k. ap (λ b. b || d a j) (has-mask 16 _ j k) ∙ or-assoc (has m j) _ _
+      ∙ ap (λ b. has m j || b) (meets-with (λ i. d i j)))
+    where
+      meets-with : (p : ℕ → Bool) → meets g p || p a ≡ meets (with-board g a) p
+      meets-with p = test-ext _ _ there back
+        where
+          there : meets g p || p a ≡ true → meets (with-board g a) p ≡ true
+          there e =
+              ⊎-elim
+              (λ some.
+              let (i, k, both) = any-some 16 (λ i. has g i && p i) some in
+              let (in-g, holds) = and-true (has g i) (p i) both in
+              meets-yes (with-board g a) p i k (has-with g a i k ∙ true-or (eqb a i) in-g) holds)
+              (meets-yes (with-board g a) p a l (has-with g a a l ∙ or-right (has g a) (eqb-same a)))
+              (or-true (meets g p) (p a) e)
+
+          back : meets (with-board g a) p ≡ true → meets g p || p a ≡ true
+          back e =
+              let (i, k, both) = any-some 16 (λ i. has (with-board g a) i && p i) e in
+              let (in-both, holds) = and-true (has (with-board g a) i) (p i) both in
+              ⊎-elim
+              (λ in-g. true-or (p a) (meets-yes g p i k in-g holds))
+              (λ own. or-right (meets g p) (ap p (eqb-true a i own) ∙ holds))
+              (or-true (has g i) (eqb a i) (sym (has-with g a i k) ∙ in-both))
+
+  -- one more board of m has its row added
+  pub one-added : (m a : ℕ) {p q : Progress} → a < 16 → has m a ≡ true → has (p .added) a ≡ false → Under-way d m p →
+      q .members ≡ joined true (d a) (p .members) → q .added ≡ with-board (p .added) a →
+      q .count ≡ suc (p .count) → Under-way d m q
+  one-added m a {p} {q} l in-m out w members added one-more =
+      record {
+        inside = λ j e.
+            let e = ap (λ g. has g j) (sym added) ∙ e in
+            let k = has-below 16 (with-board (p .added) a) j (mask-below 16 _) e in
+            ⊎-elim
+            (w .inside j)
+            (λ own. ap (has m) (sym (eqb-true a j own)) ∙ in-m)
+            (or-true (has (p .added) j) (eqb a j) (sym (has-with (p .added) a j k) ∙ e));
+        covered = members ∙ ap (joined true (d a)) (w .covered) ∙ rows-more m (p .added) a l
+            ∙ ap (with-rows d m) (sym added);
+        counted = one-more ∙ ap suc (w .counted) ∙ sym (ap (λ g. count 16 (has g)) added
+            ∙ count-with 16 (p .added) a (omega arith) l out);
+      }
+
+  -- before the first pass no row was added
+  pub begun : {p : Progress} → p .members < 2 ^ 16 → p .added ≡ 0 → p .count ≡ 0 → Under-way d (p .members) p
+  begun {p} s added count-zero =
+      record {
+        inside = λ j e. clash (ap (λ g. has g j) (sym added) ∙ e) (has-zero j);
+        covered = rows-none (p .members) s ∙ ap (with-rows d (p .members)) (sym added);
+        counted = count-zero ∙ sym (ap (λ g. count 16 (has g)) added ∙ count-none 16 (has 0) has-zero);
+      }
+
+  -- after a pass from the members m they are among the members, and so are all that their rows have
+  pub passed : (m : ℕ) {q : Progress} → m < 2 ^ 16 → q .members ≡ pass d m → q .added ≡ m →
+      q .count ≡ count 16 (has (q .added)) → Under-way d (q .members) q
+  unfolding with-rows
+  passed m {q} s members added counted =
+      record {
+        inside = λ j e. ap (λ g. has g j) members ∙ pass-keeps d m s j (ap (λ g. has g j) (sym added) ∙ e);
+        covered = members ∙ mask-told 16 _ _ (pass-small d m) (λ j l.
+            pass-has d m j l ∙ twice (has m j) _ ∙ sym (ap (λ b. b || meets m (λ i. d i j)) (pass-has d m j l)))
+            ∙ ap₂ (with-rows d) (sym members) (sym added);
+        counted = counted;
+      }
+    where
+      twice : (a b : Bool) → a || b ≡ (a || b) || b
+      twice true b = refl
+      twice false true = refl
+      twice false false = refl
 
 -- after a pass that adds nothing every later one adds nothing, so the group is found
 pub passes-stay : (d : Links) (s n m : ℕ) → n ≤ m → pass d (passes d n s) ≡ passes d n s → passes d m s ≡ passes d n s

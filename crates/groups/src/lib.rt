@@ -1,86 +1,132 @@
-// The search of groups: from the sixteen rows taken as one value, which come back emptied (document 01, "Groups").
+// The search of groups: from the sixteen rows taken as one value, which come back emptied (document 01, "Groups"). Each
+// board of the group has its row, or its column, added once (document 02, Req 04).
 use boards::Closure;
 use boards::rows::without;
 use boards::sets;
 ghost use mathlib.Core.Path.{_≡_};
-ghost use mathlib.Core.Bool.{true};
-ghost use Prim.Native.Nat.{_<_};
-ghost use Rattle.boards.specs.Boards.{commit-group, fault-group, pass};
-ghost use Rattle.boards.specs.Rows.{links-of, turned, Grouped};
+ghost use mathlib.Core.Bool.{true, false};
+ghost use Prim.Native.Nat.{suc, _<_};
+ghost use Rattle.boards.specs.Lists.{count};
+ghost use Rattle.boards.specs.Boards.{has, setOf, with-board, commit-group, fault-group, pass};
+ghost use Rattle.boards.specs.Rows.{links-of, joined, Grouped};
+ghost use Rattle.groups.specs.Search.{followed, Searched, Under-way};
 
-// The boards of g and all that one of them depends on.
-fn pass_forth(rows: [u16; 16], g: u16) -> u16
-    ensures { λ r. ⌜ r ≡ pass (links-of rows) g ⌝ }
-{
-    let mut next = g;
-    let mut a: u8 = 0;
-    while a < 16 {
-        let at = a as usize;
-        let row = rows[at];
-        let member = sets::has(g, a);
-        next = sets::join(member, row, next);
-        a += 1;
-    }
-    next
+// A search on its way: the boards gathered, those of them whose row or column was added, and how many were added.
+struct Progress {
+    members: u16,
+    added: u16,
+    count: u8,
 }
 
-// The boards of g and all that depend on one of them.
-fn pass_back(rows: [u16; 16], g: u16) -> u16
-    ensures { λ r. ⌜ r ≡ pass (turned true (links-of rows)) g ⌝ }
-{
-    let mut next = g;
-    let mut a: u8 = 0;
-    while a < 16 {
-        let at = a as usize;
-        let row = rows[at];
-        let shares = sets::meet(g, row);
-        let own = sets::single(a);
-        next = sets::join(shares, own, next);
-        a += 1;
-    }
-    next
+// What a search hands back: the group with the rows emptied, and how many rows or columns it added.
+pub struct Found {
+    pub group: Closure,
+    pub count: u8,
 }
 
-fn pass(rows: [u16; 16], g: u16, back: bool) -> u16
-    ensures { λ r. ⌜ r ≡ pass (turned back (links-of rows)) g ⌝ }
+// The boards that depend on board a.
+fn column(rows: [u16; 16], a: u8) -> u16
+    requires { ⌜ a < 16 ⌝ }
+    ensures { λ r. ⌜ r ≡ setOf (λ b. links-of rows b a) ⌝ }
+{
+    let mut boards = 0;
+    let mut b: u8 = 0;
+    while b < 16 {
+        let at = b as usize;
+        let row = rows[at];
+        let linked = sets::has(row, a);
+        let own = sets::single(b);
+        boards = sets::join(linked, own, boards);
+        b += 1;
+    }
+    boards
+}
+
+// The row of board a; its column if back. Called by `add` alone, which counts it.
+fn row_or_column(rows: [u16; 16], a: u8, back: bool) -> u16
+    requires { ⌜ a < 16 ⌝ }
+    ensures { λ r. ⌜ r ≡ setOf (followed rows back a) ⌝ }
 {
     if back {
-        pass_back(rows, g)
-    } else {
-        pass_forth(rows, g)
+        return column(rows, a);
+    }
+    let at = a as usize;
+    rows[at]
+}
+
+// Adds the row or column of board a, which was not added before, and counts it.
+fn add(rows: [u16; 16], a: u8, back: bool, before: Progress) -> Progress
+    requires { ⌜ (a < 16) × (has (before .added) a ≡ false) × (before .count ≡ count 16 (has (before .added))) ⌝ }
+    ensures { λ r. ⌜ (r .members ≡ joined true (followed rows back a) (before .members))
+        × (r .added ≡ with-board (before .added) a) × (r .count ≡ suc (before .count)) ⌝ }
+{
+    let boards = row_or_column(rows, a, back);
+    Progress {
+        members: sets::join(true, boards, before.members),
+        added: sets::with_board(before.added, a),
+        count: before.count + 1,
     }
 }
 
-// Passes until one adds nothing, sixteen at most.
-fn group(rows: [u16; 16], i: u8, back: bool) -> u16
-    requires { ⌜ i < 16 ⌝ }
-    ensures { λ r. ⌜ r ≡ commit-group (turned back (links-of rows)) i ⌝ }
+// Adds the rows or columns of the boards that joined in the last pass.
+fn pass(rows: [u16; 16], back: bool, before: Progress) -> Progress
+    requires { ⌜ Under-way (followed rows back) (before .members) before ⌝ }
+    ensures { λ r. ⌜ (r .members ≡ pass (followed rows back) (before .members))
+        × (r .added ≡ before .members) × (r .count ≡ count 16 (has (r .added))) ⌝ }
 {
-    let mut g = sets::single(i);
-    let mut n: u8 = 0;
-    while n < 16 {
-        let next = pass(rows, g, back);
-        if next == g {
-            return g;
-        }
-        g = next;
-        n += 1;
+    let mut all = before;
+    let mut left = sets::minus(before.members, before.added);
+    while left != 0 {
+        let a = sets::some_board(left);
+        all = add(rows, a, back, all);
+        left = sets::minus(before.members, all.added);
     }
-    g
+    all
+}
+
+// Passes until the row or column of every board gathered was added.
+fn gather(rows: [u16; 16], i: u8, back: bool) -> Progress
+    requires { ⌜ i < 16 ⌝ }
+    ensures { λ r. ⌜ (r .members ≡ commit-group (followed rows back) i)
+        × (r .count ≡ count 16 (has (r .members))) ⌝ }
+{
+    let first = sets::single(i);
+    let mut all = Progress {
+        members: first,
+        added: 0,
+        count: 0,
+    };
+    while all.added != all.members {
+        all = pass(rows, back, all);
+    }
+    all
+}
+
+// The commit group of board i, along the rows; or, back, its fault group, along the columns.
+pub fn search(rows: [u16; 16], i: u8, back: bool) -> Found
+    requires { ⌜ i < 16 ⌝ }
+    ensures { λ r. ⌜ Searched rows back i r ⌝ }
+{
+    let all = gather(rows, i, back);
+    let group = without(rows, all.members);
+    Found {
+        group,
+        count: all.count,
+    }
 }
 
 pub fn commit_closure(rows: [u16; 16], i: u8) -> Closure
     requires { ⌜ i < 16 ⌝ }
     ensures { λ r. ⌜ Grouped rows (commit-group (links-of rows) i) r ⌝ }
 {
-    let members = group(rows, i, false);
-    without(rows, members)
+    let found = search(rows, i, false);
+    found.group
 }
 
 pub fn fault_closure(rows: [u16; 16], i: u8) -> Closure
     requires { ⌜ i < 16 ⌝ }
     ensures { λ r. ⌜ Grouped rows (fault-group (links-of rows) i) r ⌝ }
 {
-    let members = group(rows, i, true);
-    without(rows, members)
+    let found = search(rows, i, true);
+    found.group
 }

@@ -62,7 +62,11 @@ fn mix(name: &str) -> Option<Mix> {
 
 /// An event file of so many lines, or None for a mix that is none.
 pub fn events(seed: u64, lines: usize, name: &str) -> Option<Vec<u8>> {
-    let mix = mix(name)?;
+    // The mix of long chains has no rates.
+    let rates = match name {
+        "chain" => None,
+        _ => Some(mix(name)?),
+    };
     let mut random = Random::new(seed);
     let mut player = Player::default();
     let mut out = Vec::new();
@@ -75,10 +79,14 @@ pub fn events(seed: u64, lines: usize, name: &str) -> Option<Vec<u8>> {
                 &mut line,
                 format_args!("F,{BOARDS},{SIZE},{BLOCKS},{CONTEXT}"),
             );
-        } else if !after_z && random.per_mille(mix.cut) {
-            put(&mut line, format_args!("Z,{}", random.below(80)));
+        } else if let Some(mix) = &rates {
+            if !after_z && random.per_mille(mix.cut) {
+                put(&mut line, format_args!("Z,{}", random.below(80)));
+            } else {
+                next_call(&mut line, &mut random, &player, mix);
+            }
         } else {
-            next_call(&mut line, &mut random, &player, &mix);
+            chain_call(&mut line, &mut random, number - 1);
         }
         let mut room: Room = [0; LONGEST / 2];
         player.play(lines::parse(&line, &mut room).as_ref());
@@ -141,5 +149,38 @@ fn next_call(line: &mut Vec<u8>, random: &mut Random, player: &Player, mix: &Mix
         }
         put(line, format_args!("C,{starter},"));
         put_bytes(line, random, CONTEXT);
+    }
+}
+
+/// The mix of long chains, in rounds of twenty lines: the boards, up or down,
+/// write in turn to one block, by which each and the one before it come to
+/// depend on each other; the last reads and starts a commit, the first
+/// faults, which drops the commit, and some board reads. Both groups are all
+/// sixteen boards.
+fn chain_call(line: &mut Vec<u8>, random: &mut Random, number: usize) {
+    let (round, turn) = (number / 20, number % 20);
+    let along = |i: usize| {
+        if round % 2 == 0 {
+            i
+        } else {
+            BOARDS - 1 - i
+        }
+    };
+    let (first, last) = (along(0), along(BOARDS - 1));
+    // Less than a block: a write of all of it would not link both ways.
+    let n = random.within(1, SIZE - 1);
+    let cell = round % BLOCKS * SIZE + random.below(SIZE - n + 1);
+    match turn {
+        16 => put(line, format_args!("R,{last},{cell},{n}")),
+        17 => {
+            put(line, format_args!("C,{last},"));
+            put_bytes(line, random, CONTEXT);
+        }
+        18 => put(line, format_args!("X,{first}")),
+        19 => put(line, format_args!("R,{},{cell},{n}", random.below(BOARDS))),
+        _ => {
+            put(line, format_args!("W,{},{cell},", along(turn)));
+            put_bytes(line, random, n);
+        }
     }
 }

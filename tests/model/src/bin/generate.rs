@@ -1,6 +1,6 @@
 //! `generate SEED LINES [MIX]` prints an event file. Without MIX it is one
-//! for the comparison; MIX is mixed, commit, fault or read, for the
-//! benchmark.
+//! for the comparison; MIX is mixed, commit, fault, read or chain,
+//! for the benchmark.
 use model::{generate, mixes};
 use std::io::{self, Write};
 use std::process::ExitCode;
@@ -21,7 +21,7 @@ fn main() -> ExitCode {
         _ => None,
     };
     let Some(file) = file else {
-        eprintln!("use: generate SEED LINES [mixed|commit|fault|read]");
+        eprintln!("use: generate SEED LINES [mixed|commit|fault|read|chain]");
         return ExitCode::from(2);
     };
     match io::stdout().write_all(&file) {

@@ -1,0 +1,32 @@
+-- What a search of a group hands back (document 02, Req 04), and what its inner functions promise each other.
+use Prim.Native.Nat.{ℕ}
+use mathlib.Core.Path.{_≡_}
+use mathlib.Core.Bool.{Bool, true, _||_}
+use mathlib.Core.List.{List}
+use Rattle.boards.specs.Lists.{count}
+use Rattle.boards.specs.Boards.{has, setOf, meets, Links, commit-group}
+use Rattle.boards.specs.Rows.{links-of, turned, Grouped}
+use Rattle.groups.specs.declared.Found.{Found}
+use Rattle.groups.specs.declared.Progress.{Progress}
+
+-- the dependences that a search follows: along the rows or, back, along the columns
+abbrev pub followed : List ℕ → Bool → Links
+followed rows back = turned back (links-of rows)
+
+-- the group of board i with the rows when it is emptied, and a count that is the number of its boards
+pub record Searched (rows : List ℕ) (back : Bool) (i : ℕ) (f : Found) : Type 0 where
+  pub group : Grouped rows (commit-group (followed rows back) i) (f .group)
+  pub counted : f .count ≡ count 16 (has (f .group .members))
+
+-- ---- between the functions of the search
+
+-- the boards of m, and all that one of g depends on; pass d g is with-rows d g g
+unfoldable pub with-rows : Links → ℕ → ℕ → ℕ
+with-rows d m g = setOf (λ j. has m j || meets g (λ i. d i j))
+
+-- A search on its way since a pass left the members m: the boards whose rows were added are among them, the boards of
+-- those rows were joined to them, and the rows are counted.
+pub record Under-way (d : Links) (m : ℕ) (p : Progress) : Type 0 where
+  pub inside : (j : ℕ) → has (p .added) j ≡ true → has m j ≡ true
+  pub covered : p .members ≡ with-rows d m (p .added)
+  pub counted : p .count ≡ count 16 (has (p .added))
