@@ -1,49 +1,64 @@
 -- Passes of the search: rows and columns as sets, what a pass adds, and when the group is found.
 use Prim.Native.Nat.{ℕ, suc, _+_, _^_, _≤_, _<_}
 use mathlib.Core.Path.{_≡_, refl, sym, _∙_, ap, ap₂}
-use mathlib.Core.Bool.{Bool, true, false, _&&_, _||_, not, or-assoc, or-false}
-use mathlib.Core.Logic.{⊎-elim, _≢_}
-use lib.Dec.{eqb}
+use mathlib.Core.Bool.{Bool, true, false, _&&_, _||_, not, and-comm, or-assoc, or-false}
+use mathlib.Core.Logic.{_⊎_, inl, inr, ⊎-elim, _≢_}
+use lib.Dec.{eqb, leb}
 use native.Mathlib.Omega.{arith}
-use native.Mathlib.Numerals.{add-one}
 use native.Mathlib.Decide.{le-ind}
-use borrow.Author.Tests.{eqb-true}
-use Rattle.boards.specs.Lists.{any, count}
+use borrow.Author.Tests.{eqb-true, eqb-false, leb-true, le-leb, lt-leb}
+use Rattle.boards.specs.Lists.{count}
 use Rattle.boards.specs.Boards.{has, setOf, single, with-board, meets, Links, pass, passes, commit-group}
 use Rattle.boards.specs.Rows.{joined}
 use Rattle.boards.proofs.Basics.{decide, clash, and-true, true-and, or-true, true-or, or-right, not-true, test-ext}
-use Rattle.boards.proofs.Basics.{eqb-same, none-any, any-some, some-any}
+use Rattle.boards.proofs.Basics.{eqb-same, none-any, any-some}
 use Rattle.boards.proofs.Groups.{has-zero, has-mask, has-single, has-with, has-below, has-ext, mask-below, meets-yes}
 use Rattle.boards.proofs.Groups.{pass-has, pass-small, pass-keeps, below-or, larger-count, count-none, count-with}
-use Rattle.boards.proofs.Masks.{mask-told, mask-ext}
+use Rattle.boards.proofs.Masks.{has-not, mask-told, mask-ext}
 use Rattle.groups.specs.Search.{with-rows, Under-way}
 use Rattle.groups.specs.declared.Progress.{Progress}
 
 -- ---- columns, board by board
 
--- the boards below n of which t holds
-abbrev pub listed : (ℕ → Bool) → ℕ → ℕ
-listed t n = setOf (λ j. any n (λ b. t b && eqb b j))
+-- the boards from n on, and those below n of which t holds
+abbrev pub remaining : (ℕ → Bool) → ℕ → ℕ
+remaining t n = setOf (λ j. leb n j || t j)
 
 module _ (t : ℕ → Bool) where
-  pub listed-none : 0 ≡ listed t 0
-  unfolding any
-  listed-none = mask-told 16 0 _ (omega arith) (λ j l. has-zero j)
+  pub remaining-first : 65535 ≡ remaining t 0
+  remaining-first =
+      mask-told 16 65535 _ (omega arith)
+      (λ j l. has-not 16 0 j (omega arith) l ∙ ap not (has-zero j) ∙ sym (true-or (t j) (le-leb 0 j (omega arith))))
 
-  pub listed-more : (n : ℕ) → joined (t n) (has (single n)) (listed t n) ≡ listed t (n + 1)
-  unfolding any joined
-  listed-more n =
-      mask-ext 16 _ _ (λ j l. ap₂ (λ x y. x || (t n && y)) (has-mask 16 _ j l) (has-single n j l)
-      ∙ ap (λ m. any m (λ b. t b && eqb b j)) (sym (add-one n)))
+  pub remaining-next : (n : ℕ) → setOf (λ j. has (remaining t n) j && (t n || not (eqb n j))) ≡ remaining t (n + 1)
+  remaining-next n =
+      mask-ext 16 _ _ (λ j l. ap (λ b. b && (t n || not (eqb n j))) (has-mask 16 _ j l) ∙ one j (decide (eqb n j)))
+    where
+      one : (j : ℕ) → (eqb n j ≡ true) ⊎ (eqb n j ≡ false) →
+          (leb n j || t j) && (t n || not (eqb n j)) ≡ leb (n + 1) j || t j
+      one j (inl e) =
+          let same = eqb-true n j e in
+          ap₂ (λ x y. (x || t j) && (t n || not y)) (le-leb n j (omega (arith, same))) e ∙ or-false (t n) ∙ ap t same
+          ∙ sym (ap (λ b. b || t j) (lt-leb (n + 1) j (omega (arith, same))))
+      one j (inr e) =
+          let other = eqb-false n j e in
+          let later =
+          test-ext (leb n j) (leb (n + 1) j)
+          (λ h. le-leb (n + 1) j (omega (arith, leb-true n j h, other)))
+          (λ h. le-leb n j (omega (arith, leb-true (n + 1) j h))) in
+          ap (λ y. (leb n j || t j) && (t n || not y)) e ∙ ap (λ y. (leb n j || t j) && y) (or-right (t n) refl)
+          ∙ and-comm (leb n j || t j) true ∙ ap (λ b. b || t j) later
 
-  pub listed-all : listed t 16 ≡ setOf t
-  listed-all =
-      mask-ext 16 _ _ (λ j l. test-ext _ _
-      (λ e.
-      let (b, k, both) = any-some 16 (λ b. t b && eqb b j) e in
-      let (holds, own) = and-true (t b) (eqb b j) both in
-      ap t (sym (eqb-true b j own)) ∙ holds)
-      (λ e. some-any 16 (λ b. t b && eqb b j) j l (true-and e (eqb-same j))))
+  pub remaining-last : remaining t 16 ≡ setOf t
+  remaining-last = mask-ext 16 _ _ (λ j l. ap (λ b. b || t j) (lt-leb 16 j l))
+
+-- a set without one board, or as it is
+pub kept-all : (b g : ℕ) → g < 2 ^ 16 → g ≡ setOf (λ j. has g j && (true || not (eqb b j)))
+kept-all b g s = mask-told 16 g _ s (λ j l. and-comm true (has g j))
+
+pub kept-others : (b g : ℕ) →
+    setOf (λ j. has g j && not (has (single b) j)) ≡ setOf (λ j. has g j && (false || not (eqb b j)))
+kept-others b g = mask-ext 16 _ _ (λ j l. ap (λ x. has g j && not x) (has-single b j l))
 
 -- to join a set of boards by its bits or by its test is the same
 pub joined-set : (t : Bool) (p : ℕ → Bool) (g : ℕ) → joined t (has (setOf p)) g ≡ joined t p g

@@ -4,21 +4,21 @@ use mathlib.Core.Path.{_≡_}
 use mathlib.Core.Bool.{Bool, true, _||_}
 use mathlib.Core.List.{List}
 use Rattle.boards.specs.Lists.{count}
-use Rattle.boards.specs.Boards.{has, setOf, meets, Links, commit-group}
+use Rattle.boards.specs.Boards.{has, setOf, meets, Links}
 use Rattle.boards.specs.Rows.{links-of, turned, Grouped}
 use Rattle.groups.specs.declared.Found.{Found}
 use Rattle.groups.specs.declared.Progress.{Progress}
 
--- the dependences that a search follows: along the rows or, back, along the columns
-abbrev pub followed : List ℕ → Bool → Links
-followed rows back = turned back (links-of rows)
-
--- the group of board i with the rows when it is emptied, and a count that is the number of its boards
-pub record Searched (rows : List ℕ) (back : Bool) (i : ℕ) (f : Found) : Type 0 where
-  pub group : Grouped rows (commit-group (followed rows back) i) (f .group)
-  pub counted : f .count ≡ count 16 (has (f .group .members))
+-- the group g with the rows when it is emptied, and a count that is the number of its boards
+pub record Searched (rows : List ℕ) (g : ℕ) (f : Found) : Type 0 where
+  pub group : Grouped rows g (f .group)
+  pub counted : f .count ≡ count 16 (has g)
 
 -- ---- between the functions of the search
+
+-- the dependences that it follows: along the rows or, back, along the columns
+abbrev pub followed : List ℕ → Bool → Links
+followed rows back = turned back (links-of rows)
 
 -- the boards of m, and all that one of g depends on; pass d g is with-rows d g g
 unfoldable pub with-rows : Links → ℕ → ℕ → ℕ

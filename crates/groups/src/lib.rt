@@ -4,8 +4,9 @@ use boards::Closure;
 use boards::rows::without;
 use boards::sets;
 ghost use mathlib.Core.Path.{_≡_};
-ghost use mathlib.Core.Bool.{true, false};
+ghost use mathlib.Core.Bool.{true, false, _&&_, _||_, not};
 ghost use Prim.Native.Nat.{suc, _<_};
+ghost use lib.Dec.{eqb};
 ghost use Rattle.boards.specs.Lists.{count};
 ghost use Rattle.boards.specs.Boards.{has, setOf, with-board, commit-group, fault-group, pass};
 ghost use Rattle.boards.specs.Rows.{links-of, joined, Grouped};
@@ -15,28 +16,39 @@ ghost use Rattle.groups.specs.Search.{followed, Searched, Under-way};
 struct Progress {
     members: u16,
     added: u16,
-    count: u8,
+    count: u16,
 }
 
 // What a search hands back: the group with the rows emptied, and how many rows or columns it added.
 pub struct Found {
     pub group: Closure,
-    pub count: u8,
+    pub count: u16,
 }
 
-// The boards that depend on board a.
+// The boards of g, without board b unless the test holds.
+fn keep(test: bool, b: u8, g: u16) -> u16
+    requires { ⌜ b < 16 ⌝ }
+    ensures { λ r. ⌜ r ≡ setOf (λ j. has g j && (test || not (eqb b j))) ⌝ }
+{
+    if test {
+        return g;
+    }
+    let own = sets::single(b);
+    sets::minus(g, own)
+}
+
+// The boards that depend on board a: all, without those that do not. Begun with none it takes more instructions.
 fn column(rows: [u16; 16], a: u8) -> u16
     requires { ⌜ a < 16 ⌝ }
     ensures { λ r. ⌜ r ≡ setOf (λ b. links-of rows b a) ⌝ }
 {
-    let mut boards = 0;
+    let mut boards = 65535;
     let mut b: u8 = 0;
     while b < 16 {
         let at = b as usize;
         let row = rows[at];
         let linked = sets::has(row, a);
-        let own = sets::single(b);
-        boards = sets::join(linked, own, boards);
+        boards = keep(linked, b, boards);
         b += 1;
     }
     boards
@@ -84,7 +96,7 @@ fn pass(rows: [u16; 16], back: bool, before: Progress) -> Progress
     all
 }
 
-// Passes until the row or column of every board gathered was added.
+// The search, in either direction: passes until the row or column of every board gathered was added.
 fn gather(rows: [u16; 16], i: u8, back: bool) -> Progress
     requires { ⌜ i < 16 ⌝ }
     ensures { λ r. ⌜ (r .members ≡ commit-group (followed rows back) i)
@@ -102,12 +114,11 @@ fn gather(rows: [u16; 16], i: u8, back: bool) -> Progress
     all
 }
 
-// The commit group of board i, along the rows; or, back, its fault group, along the columns.
-pub fn search(rows: [u16; 16], i: u8, back: bool) -> Found
-    requires { ⌜ i < 16 ⌝ }
-    ensures { λ r. ⌜ Searched rows back i r ⌝ }
+// What a search hands back when all are gathered.
+fn conclude(rows: [u16; 16], all: Progress) -> Found
+    requires { ⌜ all .count ≡ count 16 (has (all .members)) ⌝ }
+    ensures { λ r. ⌜ Searched rows (all .members) r ⌝ }
 {
-    let all = gather(rows, i, back);
     let group = without(rows, all.members);
     Found {
         group,
@@ -115,11 +126,29 @@ pub fn search(rows: [u16; 16], i: u8, back: bool) -> Found
     }
 }
 
+// The search of a commit group, along the rows.
+pub fn commit_search(rows: [u16; 16], i: u8) -> Found
+    requires { ⌜ i < 16 ⌝ }
+    ensures { λ r. ⌜ Searched rows (commit-group (links-of rows) i) r ⌝ }
+{
+    let all = gather(rows, i, false);
+    conclude(rows, all)
+}
+
+// The search of a fault group, along the columns.
+pub fn fault_search(rows: [u16; 16], i: u8) -> Found
+    requires { ⌜ i < 16 ⌝ }
+    ensures { λ r. ⌜ Searched rows (fault-group (links-of rows) i) r ⌝ }
+{
+    let all = gather(rows, i, true);
+    conclude(rows, all)
+}
+
 pub fn commit_closure(rows: [u16; 16], i: u8) -> Closure
     requires { ⌜ i < 16 ⌝ }
     ensures { λ r. ⌜ Grouped rows (commit-group (links-of rows) i) r ⌝ }
 {
-    let found = search(rows, i, false);
+    let found = commit_search(rows, i);
     found.group
 }
 
@@ -127,6 +156,6 @@ pub fn fault_closure(rows: [u16; 16], i: u8) -> Closure
     requires { ⌜ i < 16 ⌝ }
     ensures { λ r. ⌜ Grouped rows (fault-group (links-of rows) i) r ⌝ }
 {
-    let found = search(rows, i, true);
+    let found = fault_search(rows, i);
     found.group
 }
