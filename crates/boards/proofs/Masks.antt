@@ -19,7 +19,7 @@ use borrow.Author.Tests.{eq-eqb, ne-eqb, eqb-true, eqb-false, leb-true, leb-fals
 use Rattle.boards.specs.Lists.{for}
 use Rattle.boards.specs.Boards.{has, mask, setOf, single, with-board, meets, within, beyond, tagged-in, Links}
 use Rattle.boards.specs.Boards.{link, unlink}
-use Rattle.boards.specs.Rows.{links-of, rows-of, joined}
+use Rattle.boards.specs.Rows.{links-of, rows-of, union, minus}
 use Rattle.boards.proofs.Basics.{decide, clash, false-and, test-ext, eqb-comm}
 use Rattle.boards.proofs.Basics.{every-at, every-all, any-none, any-some}
 use Rattle.boards.proofs.Groups.{has-zero, has-mask, has-none, has-ext, has-single, has-small, has-below}
@@ -144,22 +144,14 @@ and-within g h s t =
     (λ j l. has-and g h j ∙ implied (has g j) (has h j) .1 (every-at 16 _ e j l))))
 
 -- the boards of one set that are not in another, by a complement
-pub and-minus : (g h : ℕ) → g < 2 ^ 16 → h < 2 ^ 16 → bitAnd g (65535 - h) ≡ setOf (λ j. has g j && not (has h j))
+pub and-minus : (g h : ℕ) → g < 2 ^ 16 → h < 2 ^ 16 → bitAnd g (65535 - h) ≡ minus g h
 and-minus g h s t =
     mask-told 16 _ _ (and-lt 16 g (65535 - h) s (omega arith))
     (λ j l. has-and g (65535 - h) j ∙ ap (λ b. has g j && b) (has-not 16 h j t l))
 
--- the boards of h joined to g, or not
-pub or-joined : (g h : ℕ) → g < 2 ^ 16 → h < 2 ^ 16 → bitOr g h ≡ joined true (has h) g
-unfolding joined
-or-joined g h s t = mask-told 16 _ _ (or-lt 16 g h s t) (λ j l. has-or g h j)
-
-pub not-joined : (g : ℕ) (p : ℕ → Bool) → g < 2 ^ 16 → g ≡ joined false p g
-unfolding joined
-not-joined g p s = mask-told 16 _ _ s (λ j l. sym (or-false (has g j)))
-
-pub joined-same : {t u : Bool} {h k f g : ℕ} → t ≡ u → h ≡ k → f ≡ g → joined t (has h) f ≡ joined u (has k) g
-joined-same p q r = λ i. joined (p i) (has (q i)) (r i)
+-- the boards of two sets
+pub or-union : (g h : ℕ) → g < 2 ^ 16 → h < 2 ^ 16 → bitOr g h ≡ union g h
+or-union g h s t = mask-told 16 _ _ (or-lt 16 g h s t) (λ j l. has-or g h j)
 
 -- ---- boards at or above p
 

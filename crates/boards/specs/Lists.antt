@@ -1,4 +1,4 @@
--- Loops and tests over numbers and lists, by which the definitions say "for each".
+-- Loops, tests and counts over numbers and lists, by which the definitions say "for each" and "how many".
 use Prim.Native.Nat.{ℕ, zero, suc, _+_}
 use mathlib.Core.Bool.{Bool, true, false, _&&_, _||_, cond}
 use mathlib.Core.List.{List, [], _∷_, _++_}

@@ -1,7 +1,7 @@
 -- The sixteen rows taken as one value (document 01, "The record" and "Groups").
 use Prim.Native.Nat.{ℕ}
 use mathlib.Core.Path.{_≡_}
-use mathlib.Core.Bool.{Bool, true, false, _&&_, _||_}
+use mathlib.Core.Bool.{Bool, true, false, _&&_, _||_, not}
 use mathlib.Core.List.{List, [], _∷_}
 use lib.ListN.{getD}
 use Rattle.boards.specs.Lists.{for}
@@ -30,6 +30,9 @@ unfoldable pub turned : Bool → Links → Links
 turned true d = λ a b. d b a
 turned false d = d
 
--- the boards of g, with those of which p holds if the test holds
-unfoldable pub joined : Bool → (ℕ → Bool) → ℕ → ℕ
-joined test p g = setOf (λ j. has g j || (test && p j))
+-- the boards of g and of h; those of g that are not in h
+abbrev pub union : ℕ → ℕ → ℕ
+union g h = setOf (λ j. has g j || has h j)
+
+abbrev pub minus : ℕ → ℕ → ℕ
+minus g h = setOf (λ j. has g j && not (has h j))

@@ -1,10 +1,10 @@
 // A set of boards in sixteen bits: bit j for board j; tags.
 use crate::Writer;
 ghost use mathlib.Core.Path.{_≡_};
-ghost use mathlib.Core.Bool.{true, _&&_, not};
+ghost use mathlib.Core.Bool.{true};
 ghost use Prim.Native.Nat.{_<_};
-ghost use Rattle.boards.specs.Boards.{has, setOf, single, with-board, meets, within, beyond, tag-of, tagged-in};
-ghost use Rattle.boards.specs.Rows.{joined};
+ghost use Rattle.boards.specs.Boards.{has, single, with-board, meets, within, beyond, tag-of, tagged-in};
+ghost use Rattle.boards.specs.Rows.{union, minus};
 
 pub fn has(g: u16, j: u8) -> bool
     requires { ⌜ j < 16 ⌝ }
@@ -42,7 +42,7 @@ pub fn within(g: u16, h: u16) -> bool
 
 // The boards of g that are not in h.
 pub fn minus(g: u16, h: u16) -> u16
-    ensures { λ r. ⌜ r ≡ setOf (λ j. has g j && not (has h j)) ⌝ }
+    ensures { λ r. ⌜ r ≡ minus g h ⌝ }
 {
     g & !h
 }
@@ -55,11 +55,11 @@ pub fn some_board(g: u16) -> u8
     u16::trailing_zeros(g) as u8
 }
 
-// The boards of g, with those of h if the test holds.
-pub fn join(test: bool, h: u16, g: u16) -> u16
-    ensures { λ r. ⌜ r ≡ joined test (has h) g ⌝ }
+// The boards of g and of h.
+pub fn union(g: u16, h: u16) -> u16
+    ensures { λ r. ⌜ r ≡ union g h ⌝ }
 {
-    if test { g | h } else { g }
+    g | h
 }
 
 // Whether g has a bit at or above p.

@@ -9,13 +9,13 @@ use native.Mathlib.Decide.{le-ind}
 use borrow.Author.Tests.{eqb-true, eqb-false, leb-true, le-leb, lt-leb}
 use Rattle.boards.specs.Lists.{count}
 use Rattle.boards.specs.Boards.{has, setOf, single, with-board, meets, Links, pass, passes, commit-group}
-use Rattle.boards.specs.Rows.{joined}
+use Rattle.boards.specs.Rows.{union, minus}
 use Rattle.boards.proofs.Basics.{decide, clash, and-true, true-and, or-true, true-or, or-right, not-true, test-ext}
 use Rattle.boards.proofs.Basics.{eqb-same, none-any, any-some}
 use Rattle.boards.proofs.Groups.{has-zero, has-mask, has-single, has-with, has-below, has-ext, mask-below, meets-yes}
 use Rattle.boards.proofs.Groups.{pass-has, pass-small, pass-keeps, below-or, larger-count, count-none, count-with}
 use Rattle.boards.proofs.Masks.{has-not, mask-told, mask-ext}
-use Rattle.groups.specs.Search.{with-rows, Under-way}
+use Rattle.groups.specs.Search.{kept, with-rows, Pass-invariant}
 use Rattle.groups.specs.declared.Progress.{Progress}
 
 -- ---- columns, board by board
@@ -30,7 +30,7 @@ module _ (t : ℕ → Bool) where
       mask-told 16 65535 _ (omega arith)
       (λ j l. has-not 16 0 j (omega arith) l ∙ ap not (has-zero j) ∙ sym (true-or (t j) (le-leb 0 j (omega arith))))
 
-  pub remaining-next : (n : ℕ) → setOf (λ j. has (remaining t n) j && (t n || not (eqb n j))) ≡ remaining t (n + 1)
+  pub remaining-next : (n : ℕ) → kept (t n) n (remaining t n) ≡ remaining t (n + 1)
   remaining-next n =
       mask-ext 16 _ _ (λ j l. ap (λ b. b && (t n || not (eqb n j))) (has-mask 16 _ j l) ∙ one j (decide (eqb n j)))
     where
@@ -53,22 +53,16 @@ module _ (t : ℕ → Bool) where
   remaining-last = mask-ext 16 _ _ (λ j l. ap (λ b. b || t j) (lt-leb 16 j l))
 
 -- a set without one board, or as it is
-pub kept-all : (b g : ℕ) → g < 2 ^ 16 → g ≡ setOf (λ j. has g j && (true || not (eqb b j)))
+pub kept-all : (b g : ℕ) → g < 2 ^ 16 → g ≡ kept true b g
 kept-all b g s = mask-told 16 g _ s (λ j l. and-comm true (has g j))
 
-pub kept-others : (b g : ℕ) →
-    setOf (λ j. has g j && not (has (single b) j)) ≡ setOf (λ j. has g j && (false || not (eqb b j)))
+pub kept-others : (b g : ℕ) → minus g (single b) ≡ kept false b g
 kept-others b g = mask-ext 16 _ _ (λ j l. ap (λ x. has g j && not x) (has-single b j l))
-
--- to join a set of boards by its bits or by its test is the same
-pub joined-set : (t : Bool) (p : ℕ → Bool) (g : ℕ) → joined t (has (setOf p)) g ≡ joined t p g
-unfolding joined
-joined-set t p g = mask-ext 16 _ _ (λ j l. ap (λ b. has g j || (t && b)) (has-mask 16 p j l))
 
 -- ---- sets within sets
 
 -- a board of h without g is in h and not in g
-pub left-board : (g h a : ℕ) → a < 16 → has (setOf (λ j. has h j && not (has g j))) a ≡ true →
+pub left-board : (g h a : ℕ) → a < 16 → has (minus h g) a ≡ true →
     (has h a ≡ true) × (has g a ≡ false)
 left-board g h a l e =
     let (in-h, out) = and-true (has h a) (not (has g a)) (sym (has-mask 16 _ a l) ∙ e) in
@@ -76,7 +70,7 @@ left-board g h a l e =
 
 module _ (g h : ℕ) (s : g < 2 ^ 16) (t : h < 2 ^ 16) (inside : (j : ℕ) → has g j ≡ true → has h j ≡ true) where
   -- where h without g is empty, g and h are the same
-  pub none-left : 0 ≡ setOf (λ j. has h j && not (has g j)) → g ≡ h
+  pub none-left : 0 ≡ minus h g → g ≡ h
   none-left e =
       has-ext 16 g h s t
       (λ j l. test-ext _ _ (inside j)
@@ -103,10 +97,10 @@ module _ (d : Links) where
       mask-told 16 m _ s (λ j l. sym (ap (λ b. has m j || b) (none-any 16 (λ i. has 0 i && d i j)
       (λ i k. ap (λ b. b && d i j) (has-zero i))) ∙ or-false (has m j)))
 
-  pub rows-more : (m g a : ℕ) → a < 16 → joined true (d a) (with-rows d m g) ≡ with-rows d m (with-board g a)
-  unfolding with-rows joined
+  pub rows-more : (m g a : ℕ) → a < 16 → union (with-rows d m g) (setOf (d a)) ≡ with-rows d m (with-board g a)
+  unfolding with-rows
   rows-more m g a l =
-      mask-ext 16 _ _ (λ j k. ap (λ b. b || d a j) (has-mask 16 _ j k) ∙ or-assoc (has m j) _ _
+      mask-ext 16 _ _ (λ j k. ap₂ (λ x y. x || y) (has-mask 16 _ j k) (has-mask 16 _ j k) ∙ or-assoc (has m j) _ _
       ∙ ap (λ b. has m j || b) (meets-with (λ i. d i j)))
     where
       meets-with : (p : ℕ → Bool) → meets g p || p a ≡ meets (with-board g a) p
@@ -132,9 +126,9 @@ module _ (d : Links) where
               (or-true (has g i) (eqb a i) (sym (has-with g a i k) ∙ in-both))
 
   -- one more board of m has its row added
-  pub one-added : (m a : ℕ) {p q : Progress} → a < 16 → has m a ≡ true → has (p .added) a ≡ false → Under-way d m p →
-      q .members ≡ joined true (d a) (p .members) → q .added ≡ with-board (p .added) a →
-      q .count ≡ suc (p .count) → Under-way d m q
+  pub one-added : (m a : ℕ) {p q : Progress} → a < 16 → has m a ≡ true → has (p .added) a ≡ false → Pass-invariant d m p →
+      q .members ≡ union (p .members) (setOf (d a)) → q .added ≡ with-board (p .added) a →
+      q .count ≡ suc (p .count) → Pass-invariant d m q
   one-added m a {p} {q} l in-m out w members added one-more =
       record {
         inside = λ j e.
@@ -144,14 +138,14 @@ module _ (d : Links) where
             (w .inside j)
             (λ own. ap (has m) (sym (eqb-true a j own)) ∙ in-m)
             (or-true (has (p .added) j) (eqb a j) (sym (has-with (p .added) a j k) ∙ e));
-        covered = members ∙ ap (joined true (d a)) (w .covered) ∙ rows-more m (p .added) a l
+        covered = members ∙ ap (λ x. union x (setOf (d a))) (w .covered) ∙ rows-more m (p .added) a l
             ∙ ap (with-rows d m) (sym added);
         counted = one-more ∙ ap suc (w .counted) ∙ sym (ap (λ g. count 16 (has g)) added
             ∙ count-with 16 (p .added) a (omega arith) l out);
       }
 
   -- before the first pass no row was added
-  pub begun : {p : Progress} → p .members < 2 ^ 16 → p .added ≡ 0 → p .count ≡ 0 → Under-way d (p .members) p
+  pub begun : {p : Progress} → p .members < 2 ^ 16 → p .added ≡ 0 → p .count ≡ 0 → Pass-invariant d (p .members) p
   begun {p} s added count-zero =
       record {
         inside = λ j e. clash (ap (λ g. has g j) (sym added) ∙ e) (has-zero j);
@@ -161,7 +155,7 @@ module _ (d : Links) where
 
   -- after a pass from the members m they are among the members, and so are all that their rows have
   pub passed : (m : ℕ) {q : Progress} → m < 2 ^ 16 → q .members ≡ pass d m → q .added ≡ m →
-      q .count ≡ count 16 (has (q .added)) → Under-way d (q .members) q
+      q .count ≡ count 16 (has (q .added)) → Pass-invariant d (q .members) q
   unfolding with-rows
   passed m {q} s members added counted =
       record {

@@ -4,31 +4,30 @@ use boards::Closure;
 use boards::rows::without;
 use boards::sets;
 ghost use mathlib.Core.Path.{_≡_};
-ghost use mathlib.Core.Bool.{true, false, _&&_, _||_, not};
+ghost use mathlib.Core.Bool.{true, false};
 ghost use Prim.Native.Nat.{suc, _<_};
-ghost use lib.Dec.{eqb};
 ghost use Rattle.boards.specs.Lists.{count};
 ghost use Rattle.boards.specs.Boards.{has, setOf, with-board, commit-group, fault-group, pass};
-ghost use Rattle.boards.specs.Rows.{links-of, joined, Grouped};
-ghost use Rattle.groups.specs.Search.{followed, Searched, Under-way};
+ghost use Rattle.boards.specs.Rows.{links-of, union, Grouped};
+ghost use Rattle.groups.specs.Search.{Searched, followed, kept, Pass-invariant};
 
-// A search on its way: the boards gathered, those of them whose row or column was added, and how many were added.
+// How far a search is: the boards gathered, those of them whose row or column was added, and how many were added.
 struct Progress {
     members: u16,
     added: u16,
     count: u16,
 }
 
-// What a search hands back: the group with the rows emptied, and how many rows or columns it added.
+// What a search hands back: the group and the rows emptied, and how many rows or columns it added.
 pub struct Found {
-    pub group: Closure,
+    pub closure: Closure,
     pub count: u16,
 }
 
 // The boards of g, without board b unless the test holds.
 fn keep(test: bool, b: u8, g: u16) -> u16
     requires { ⌜ b < 16 ⌝ }
-    ensures { λ r. ⌜ r ≡ setOf (λ j. has g j && (test || not (eqb b j))) ⌝ }
+    ensures { λ r. ⌜ r ≡ kept test b g ⌝ }
 {
     if test {
         return g;
@@ -40,7 +39,7 @@ fn keep(test: bool, b: u8, g: u16) -> u16
 // The boards that depend on board a: all, without those that do not. Begun with none it takes more instructions.
 fn column(rows: [u16; 16], a: u8) -> u16
     requires { ⌜ a < 16 ⌝ }
-    ensures { λ r. ⌜ r ≡ setOf (λ b. links-of rows b a) ⌝ }
+    ensures { λ r. ⌜ r ≡ setOf (followed rows true a) ⌝ }
 {
     let mut boards = 65535;
     let mut b: u8 = 0;
@@ -69,12 +68,12 @@ fn row_or_column(rows: [u16; 16], a: u8, back: bool) -> u16
 // Adds the row or column of board a, which was not added before, and counts it.
 fn add(rows: [u16; 16], a: u8, back: bool, before: Progress) -> Progress
     requires { ⌜ (a < 16) × (has (before .added) a ≡ false) × (before .count ≡ count 16 (has (before .added))) ⌝ }
-    ensures { λ r. ⌜ (r .members ≡ joined true (followed rows back a) (before .members))
+    ensures { λ r. ⌜ (r .members ≡ union (before .members) (setOf (followed rows back a)))
         × (r .added ≡ with-board (before .added) a) × (r .count ≡ suc (before .count)) ⌝ }
 {
     let boards = row_or_column(rows, a, back);
     Progress {
-        members: sets::join(true, boards, before.members),
+        members: sets::union(before.members, boards),
         added: sets::with_board(before.added, a),
         count: before.count + 1,
     }
@@ -82,18 +81,18 @@ fn add(rows: [u16; 16], a: u8, back: bool, before: Progress) -> Progress
 
 // Adds the rows or columns of the boards that joined in the last pass.
 fn pass(rows: [u16; 16], back: bool, before: Progress) -> Progress
-    requires { ⌜ Under-way (followed rows back) (before .members) before ⌝ }
+    requires { ⌜ Pass-invariant (followed rows back) (before .members) before ⌝ }
     ensures { λ r. ⌜ (r .members ≡ pass (followed rows back) (before .members))
         × (r .added ≡ before .members) × (r .count ≡ count 16 (has (r .added))) ⌝ }
 {
-    let mut all = before;
+    let mut progress = before;
     let mut left = sets::minus(before.members, before.added);
     while left != 0 {
         let a = sets::some_board(left);
-        all = add(rows, a, back, all);
-        left = sets::minus(before.members, all.added);
+        progress = add(rows, a, back, progress);
+        left = sets::minus(before.members, progress.added);
     }
-    all
+    progress
 }
 
 // The search, in either direction: passes until the row or column of every board gathered was added.
@@ -103,26 +102,26 @@ fn gather(rows: [u16; 16], i: u8, back: bool) -> Progress
         × (r .count ≡ count 16 (has (r .members))) ⌝ }
 {
     let first = sets::single(i);
-    let mut all = Progress {
+    let mut progress = Progress {
         members: first,
         added: 0,
         count: 0,
     };
-    while all.added != all.members {
-        all = pass(rows, back, all);
+    while progress.added != progress.members {
+        progress = pass(rows, back, progress);
     }
-    all
+    progress
 }
 
 // What a search hands back when all are gathered.
-fn conclude(rows: [u16; 16], all: Progress) -> Found
-    requires { ⌜ all .count ≡ count 16 (has (all .members)) ⌝ }
-    ensures { λ r. ⌜ Searched rows (all .members) r ⌝ }
+fn conclude(rows: [u16; 16], progress: Progress) -> Found
+    requires { ⌜ progress .count ≡ count 16 (has (progress .members)) ⌝ }
+    ensures { λ r. ⌜ Searched rows (progress .members) r ⌝ }
 {
-    let group = without(rows, all.members);
+    let closure = without(rows, progress.members);
     Found {
-        group,
-        count: all.count,
+        closure,
+        count: progress.count,
     }
 }
 
@@ -131,8 +130,8 @@ pub fn commit_search(rows: [u16; 16], i: u8) -> Found
     requires { ⌜ i < 16 ⌝ }
     ensures { λ r. ⌜ Searched rows (commit-group (links-of rows) i) r ⌝ }
 {
-    let all = gather(rows, i, false);
-    conclude(rows, all)
+    let progress = gather(rows, i, false);
+    conclude(rows, progress)
 }
 
 // The search of a fault group, along the columns.
@@ -140,8 +139,8 @@ pub fn fault_search(rows: [u16; 16], i: u8) -> Found
     requires { ⌜ i < 16 ⌝ }
     ensures { λ r. ⌜ Searched rows (fault-group (links-of rows) i) r ⌝ }
 {
-    let all = gather(rows, i, true);
-    conclude(rows, all)
+    let progress = gather(rows, i, true);
+    conclude(rows, progress)
 }
 
 pub fn commit_closure(rows: [u16; 16], i: u8) -> Closure
@@ -149,7 +148,7 @@ pub fn commit_closure(rows: [u16; 16], i: u8) -> Closure
     ensures { λ r. ⌜ Grouped rows (commit-group (links-of rows) i) r ⌝ }
 {
     let found = commit_search(rows, i);
-    found.group
+    found.closure
 }
 
 pub fn fault_closure(rows: [u16; 16], i: u8) -> Closure
@@ -157,5 +156,5 @@ pub fn fault_closure(rows: [u16; 16], i: u8) -> Closure
     ensures { λ r. ⌜ Grouped rows (fault-group (links-of rows) i) r ⌝ }
 {
     let found = fault_search(rows, i);
-    found.group
+    found.closure
 }

@@ -157,8 +157,8 @@ fn next_call(line: &mut Vec<u8>, random: &mut Random, player: &Player, mix: &Mix
 /// depend on each other; the last reads and starts a commit, the first
 /// faults, which drops the commit, and some board reads. Both groups are all
 /// sixteen boards.
-fn chain_call(line: &mut Vec<u8>, random: &mut Random, number: usize) {
-    let (round, turn) = (number / 20, number % 20);
+fn chain_call(line: &mut Vec<u8>, random: &mut Random, since_format: usize) {
+    let (round, turn) = (since_format / 20, since_format % 20);
     let along = |i: usize| {
         if round % 2 == 0 {
             i

@@ -8,18 +8,18 @@ use borrow.Author.Needs.{needs}
 use Rattle.boards.specs.Lists.{count}
 use Rattle.boards.specs.Boards.{has, single, pass, passes}
 use Rattle.boards.proofs.Groups.{count-le}
-use Rattle.groups.specs.Search.{followed, with-rows, Under-way}
+use Rattle.groups.specs.Search.{followed, with-rows, Pass-invariant}
 use Rattle.groups.proofs.Passes.{begun, passed, fewer, found-early}
 use Rattle.groups.proofs.gather.Statement.{statement}
 use Rattle.groups.proofs.gather.Tie as tie
 
 abbrev Inv-loop : tie.InvT-loop
-Inv-loop rows i back first all₀ all =
+Inv-loop rows i back first progress₀ progress =
     let d = followed rows back in
-    Under-way d (all .members) all × ((n : ℕ) × (n ≤ all .count) × (all .members ≡ passes d n (single i)))
+    Pass-invariant d (progress .members) progress × ((n : ℕ) × (n ≤ progress .count) × (progress .members ≡ passes d n (single i)))
 
 abbrev μ-loop : tie.MeasureT-loop
-μ-loop rows i back first all₀ all = 16 - all .count
+μ-loop rows i back first progress₀ progress = 16 - progress .count
 
 single-requires : tie.Need-single-requires Inv-loop μ-loop
 single-requires c κs = c .pre
@@ -34,19 +34,19 @@ pass-requires : tie.Need-pass-requires Inv-loop μ-loop
 pass-requires c κs = c .before .before .loop .inv .0
 
 small : (c : tie.After-struct-known Inv-loop μ-loop)
-    → (c .before .loop .all .members < 2 ^ 16) × (c .before .loop .all .added < 2 ^ 16)
+    → (c .before .loop .progress .members < 2 ^ 16) × (c .before .loop .progress .added < 2 ^ 16)
 small c =
-    let members : Fits w16 (c .before .loop .all .members) = search needs in
-    let added : Fits w16 (c .before .loop .all .added) = search needs in
+    let members : Fits w16 (c .before .loop .progress .members) = search needs in
+    let added : Fits w16 (c .before .loop .progress .added) = search needs in
     (members .fits, added .fits)
 
 -- a pass adds a row at least
-more : (c : tie.After-pass Inv-loop μ-loop) → c .before .before .before .loop .all .count < c .pass .result .count
+more : (c : tie.After-pass Inv-loop μ-loop) → c .before .before .before .loop .progress .count < c .pass .result .count
 more c =
     let known = c .before .before in
     let l = known .before .loop in
     let less =
-    fewer (l .all .added) (l .all .members) (small known .1) (small known .0) (l .inv .0 .inside)
+    fewer (l .progress .added) (l .progress .members) (small known .1) (small known .0) (l .inv .0 .inside)
     (c .before .if1 .taken) in
     omega (arith, less, l .inv .0 .counted, c .pass .ensures .2 ∙ ap (λ g. count 16 (has g)) (c .pass .ensures .1))
 
@@ -62,7 +62,7 @@ loop-again c =
     let d = followed (a .rows) (a .back) in
     let (members, added, counted) = c .pass .ensures in
     let (n, few, reached) = l .inv .1 in (
-      passed d (l .all .members) (small known .0) members added counted,
+      passed d (l .progress .members) (small known .0) members added counted,
       (suc n, omega (arith, more c), members ∙ ap (pass d) reached),
     )
 
@@ -72,13 +72,13 @@ returns c =
     let l = c .before .before .loop in
     let a = c .before .before .before .before .args in
     let d = followed (a .rows) (a .back) in
-    let all = l .all in
+    let progress = l .progress in
     let (n, few, reached) = l .inv .1 in
     let counted = l .inv .0 .counted in
-    let whole : all .added ≡ all .members = c .if1 .left in
-    let most = count-le 16 (has (all .added)) in (
-      found-early d (a .i) n (all .members) (omega (arith, counted, most)) reached
-          (sym (l .inv .0 .covered ∙ ap (with-rows d (all .members)) whole)),
+    let whole : progress .added ≡ progress .members = c .if1 .left in
+    let most = count-le 16 (has (progress .added)) in (
+      found-early d (a .i) n (progress .members) (omega (arith, counted, most)) reached
+          (sym (l .inv .0 .covered ∙ ap (with-rows d (progress .members)) whole)),
       counted ∙ ap (λ g. count 16 (has g)) whole,
     )
 

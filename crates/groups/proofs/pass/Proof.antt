@@ -1,26 +1,27 @@
 -- `pass` meets its contract: the boards that joined have their rows added one by one, till none is left.
 use Prim.Native.Nat.{_-_, _^_, _<_}
 use mathlib.Core.Path.{_≡_, _∙_, sym, ap, subst}
-use mathlib.Core.Bool.{true, false, _&&_, not}
+use mathlib.Core.Bool.{true, false}
 use mir.Syntax.{w16}
 use mir.Val.{Fits}
 use native.Mathlib.Omega.{arith}
 use borrow.Author.Needs.{needs}
 use Rattle.boards.specs.Lists.{count}
-use Rattle.boards.specs.Boards.{has, setOf, pass}
+use Rattle.boards.specs.Boards.{has, pass}
+use Rattle.boards.specs.Rows.{minus}
 use Rattle.boards.proofs.Groups.{mask-below, count-le}
-use Rattle.groups.specs.Search.{followed, with-rows, Under-way}
+use Rattle.groups.specs.Search.{followed, with-rows, Pass-invariant}
 use Rattle.groups.proofs.Passes.{none-left, left-board, one-added}
 use Rattle.groups.proofs.pass.Statement.{statement}
 use Rattle.groups.proofs.pass.Tie as tie
 
 abbrev Inv-loop : tie.InvT-loop
-Inv-loop rows back before all₀ left₀ all left =
-    Under-way (followed rows back) (before .members) all × (all .added < 2 ^ 16)
-    × (left ≡ setOf (λ j. has (before .members) j && not (has (all .added) j)))
+Inv-loop rows back before progress₀ left₀ progress left =
+    Pass-invariant (followed rows back) (before .members) progress × (progress .added < 2 ^ 16)
+    × (left ≡ minus (before .members) (progress .added))
 
 abbrev μ-loop : tie.MeasureT-loop
-μ-loop rows back before all₀ left₀ all left = 16 - all .count
+μ-loop rows back before progress₀ left₀ progress left = 16 - progress .count
 
 minus-requires : tie.Need-minus-requires Inv-loop μ-loop
 minus-requires c κs = tt
@@ -39,11 +40,11 @@ some-board-requires c κs = omega arith
 
 -- the board whose turn it is: a member when the pass began, whose row was not added
 next-board : (c : tie.After-some-board Inv-loop μ-loop) → let l = c .before .before in let a = c .some-board .result in
-    (has (l .before .before .args .before .members) a ≡ true) × (has (l .loop .all .added) a ≡ false)
+    (has (l .before .before .args .before .members) a ≡ true) × (has (l .loop .progress .added) a ≡ false)
 next-board c =
     let l = c .before .before in
     let (below, left) = c .some-board .ensures in
-    left-board (l .loop .all .added) (l .before .before .args .before .members) (c .some-board .result) below
+    left-board (l .loop .progress .added) (l .before .before .args .before .members) (c .some-board .result) below
     (ap (λ g. has g (c .some-board .result)) (sym (l .loop .inv .2)) ∙ left)
 
 add-requires : tie.Need-add-requires Inv-loop μ-loop
@@ -53,7 +54,7 @@ minus-requires-2 : tie.Need-minus-requires-2 Inv-loop μ-loop
 minus-requires-2 c κs = tt
 
 again : (c : tie.After-add Inv-loop μ-loop) → let s = c .before .before .before .before .before in
-    Under-way (followed (s .args .rows) (s .args .back)) (s .args .before .members) (c .add .result)
+    Pass-invariant (followed (s .args .rows) (s .args .back)) (s .args .before .members) (c .add .result)
 again c =
     let s = c .before .before .before .before .before in
     let (members, added, one-more) = c .add .ensures in
@@ -77,7 +78,7 @@ returns c =
     let l = c .before in
     let s = l .before .before in
     let m = s .args .before .members in
-    let p = l .loop .all in
+    let p = l .loop .progress in
     let whole : p .added ≡ m =
     none-left (p .added) m (l .loop .inv .1) (small s .0) (l .loop .inv .0 .inside)
     (sym (c .loop-test .left) ∙ l .loop .inv .2) in (

@@ -4,6 +4,7 @@ use borrow.Author.Needs.{needs}
 use Rattle.boards.specs.Boards.{setOf}
 use Rattle.boards.specs.Rows.{links-of, turned}
 use Rattle.boards.proofs.Masks.{mask-told, Sixteen}
+use Rattle.groups.specs.Search.{followed}
 use Rattle.groups.proofs.row_or_column.Statement.{statement}
 use Rattle.groups.proofs.row_or_column.Tie as tie
 
@@ -11,10 +12,9 @@ column-requires : tie.Need-column-requires
 column-requires c κs = search needs
 
 returns : tie.Need-returns
-unfolding turned
 returns c =
     let a = c .before .before .args in
-    c .column .ensures ∙ ap (λ b. setOf (turned b (links-of (a .t1)) (a .a))) (sym (c .before .if1 .taken))
+    c .column .ensures ∙ ap (λ b. setOf (followed (a .t1) b (a .a))) (sym (c .before .if1 .taken))
 
 mul-result : tie.Need-mul-result
 mul-result c = search needs
@@ -30,7 +30,7 @@ unfolding turned links-of
 returns-2 c =
     let a = c .before .args in
     mask-told 16 _ _ (sixteen (c .before) .small (a .a) .fits) (λ j l. refl)
-    ∙ ap (λ b. setOf (turned b (links-of (a .t1)) (a .a))) (sym (c .if1 .left))
+    ∙ ap (λ b. setOf (followed (a .t1) b (a .a))) (sym (c .if1 .left))
 
 pub row-or-column-spec : {M : Type 1} → statement M
 row-or-column-spec = tie.close (tie.spec column-requires returns mul-result array-read-result returns-2)
