@@ -143,6 +143,7 @@ pub fn fault_search(rows: [u16; 16], i: u8) -> Found
     conclude(rows, progress)
 }
 
+// Group and rows of a search, without the count.
 pub fn commit_closure(rows: [u16; 16], i: u8) -> Closure
     requires { ⌜ i < 16 ⌝ }
     ensures { λ r. ⌜ Grouped rows (commit-group (links-of rows) i) r ⌝ }
