@@ -126,8 +126,8 @@ module _ (d : Links) where
               (or-true (has g i) (eqb a i) (sym (has-with g a i k) ∙ in-both))
 
   -- one more board of m has its row added
-  pub one-added : (m a : ℕ) {p q : Progress} → a < 16 → has m a ≡ true → has (p .added) a ≡ false → Pass-invariant d m p →
-      q .members ≡ union (p .members) (setOf (d a)) → q .added ≡ with-board (p .added) a →
+  pub one-added : (m a : ℕ) {p q : Progress} → a < 16 → has m a ≡ true → has (p .added) a ≡ false →
+      Pass-invariant d m p → q .members ≡ union (p .members) (setOf (d a)) → q .added ≡ with-board (p .added) a →
       q .count ≡ suc (p .count) → Pass-invariant d m q
   one-added m a {p} {q} l in-m out w members added one-more =
       record {

@@ -53,7 +53,8 @@ loop-again c =
 returns : tie.Need-returns Inv-loop μ-loop
 returns c =
     let s = c .before .before .args in
-    c .before .loop .inv .1 ∙ ap (remaining (followed (s .t1) true (s .a))) (omega arith) ∙ remaining-last (followed (s .t1) true (s .a))
+    let linked = followed (s .t1) true (s .a) in
+    c .before .loop .inv .1 ∙ ap (remaining linked) (omega arith) ∙ remaining-last linked
 
 pub column-spec : {M : Type 1} → statement M
 column-spec =

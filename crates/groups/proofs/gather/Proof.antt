@@ -16,7 +16,8 @@ use Rattle.groups.proofs.gather.Tie as tie
 abbrev Inv-loop : tie.InvT-loop
 Inv-loop rows i back first progress₀ progress =
     let d = followed rows back in
-    Pass-invariant d (progress .members) progress × ((n : ℕ) × (n ≤ progress .count) × (progress .members ≡ passes d n (single i)))
+    Pass-invariant d (progress .members) progress
+    × ((n : ℕ) × (n ≤ progress .count) × (progress .members ≡ passes d n (single i)))
 
 abbrev μ-loop : tie.MeasureT-loop
 μ-loop rows i back first progress₀ progress = 16 - progress .count
