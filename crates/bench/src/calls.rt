@@ -1,9 +1,15 @@
 // One call of the module, as a request asks it.
-use crate::text::Request;
-use crate::text::at_most;
-use crate::text::part_end;
+use crate::requests::Request;
+use crate::requests::at_most;
+use crate::requests::part_end;
 use protocol::Reply;
 use protocol::Shape;
+use text::FAULT;
+use text::FORMAT;
+use text::POWER_UP;
+use text::READ;
+use text::START;
+use text::WRITE;
 use volatile::Record;
 
 fn format_call(image: &mut [u8], state: Record, r: Request) -> Reply {
@@ -49,7 +55,7 @@ fn commit_call(image: &mut [u8], state: Record, r: Request) -> Reply {
     let source = sequence();
     let first = at_most(r.c, 256);
     let end = part_end(first, r.b, 256);
-    if r.letter == b'C' {
+    if r.letter == START {
         return commit::start(image, state, r.a, &source[first..end], r.k);
     }
     commit::acknowledge(image, state, r.a, &source[first..end], r.k)
@@ -58,19 +64,19 @@ fn commit_call(image: &mut [u8], state: Record, r: Request) -> Reply {
 // The call of a request's letter; the bytes of a read go into the buffer.
 pub fn call(image: &mut [u8], state: Record, r: Request, buffer: &mut [u8]) -> Reply {
     let letter = r.letter;
-    if letter == b'F' {
+    if letter == FORMAT {
         return format_call(image, state, r);
     }
-    if letter == b'R' {
+    if letter == READ {
         return read_call(image, state, r, buffer);
     }
-    if letter == b'W' {
+    if letter == WRITE {
         return write_call(image, state, r);
     }
-    if letter == b'X' {
+    if letter == FAULT {
         return fault::fault(image, state, r.a, r.k);
     }
-    if letter == b'U' {
+    if letter == POWER_UP {
         return recovery::power_up(image, r.k);
     }
     commit_call(image, state, r)

@@ -1,6 +1,6 @@
 // Writes answers, and whether image, record and buffer are as they were.
 use crate::records::same_record;
-use crate::text::at_most;
+use crate::requests::at_most;
 use protocol::Answer;
 use volatile::Record;
 ghost use Prim.Native.Nat.{_≤_};

@@ -5,11 +5,19 @@ use crate::area::PART;
 use crate::area::copy;
 use crate::cuts::every_cut;
 use bench::calls::call;
+use bench::letters;
 use bench::records::changed;
+use bench::requests::Request;
+use bench::requests::at_most;
+use bench::requests::request_of;
 use bench::tell;
-use bench::text::Request;
-use bench::text::at_most;
-use bench::text::request_of;
+use text::ACKNOWLEDGE;
+use text::FAULT;
+use text::FORMAT;
+use text::POWER_UP;
+use text::READ;
+use text::START;
+use text::WRITE;
 use volatile::Record;
 ghost use Prim.Native.Nat.{_≤_};
 ghost use lib.ListN.{length};
@@ -59,7 +67,7 @@ fn same_line(image: &[u8], other: &[u8]) {
 
 // A forecast: status, group, stores.
 fn forecast_line(image: &[u8], state: Record, r: Request) {
-    let f = if r.letter == b'E' {
+    let f = if r.letter == letters::COMMIT_FORECAST {
         forecast::commit_forecast(image, state, r.a)
     } else {
         forecast::fault_forecast(image, state, r.a)
@@ -76,25 +84,25 @@ fn forecast_line(image: &[u8], state: Record, r: Request) {
 fn other_line(area: &mut [u8], n: usize, r: Request)
     requires { ⌜ (144000 ≤ length (now area)) × (n ≤ 36000) ⌝ }
 {
-    if r.letter == b'K' {
+    if r.letter == letters::CONTEXT {
         context_line(&area[0..n], r.a);
         return;
     }
-    if r.letter == b'S' {
+    if r.letter == letters::SAME {
         let end = OTHER + n;
         same_line(&area[0..n], &area[OTHER..end]);
         return;
     }
-    if r.letter == b'D' {
+    if r.letter == letters::IMAGE {
         tell::bytes_line(b" : ", &area[0..n]);
         return;
     }
     io::write_all(1, b"\n");
-    if r.letter == b'M' {
+    if r.letter == letters::REMEMBER {
         copy(area, 0, OTHER, PART);
         return;
     }
-    if r.letter != b'P' {
+    if r.letter != letters::CHANGE_BYTE {
         return;
     }
     let at = r.k;
@@ -105,8 +113,20 @@ fn other_line(area: &mut [u8], n: usize, r: Request)
 
 fn is_call(letter: u8) -> bool {
     match letter {
-        b'F' | b'R' | b'W' | b'C' | b'A' | b'X' | b'U' => true,
+        FORMAT | READ | WRITE | START | ACKNOWLEDGE | FAULT | POWER_UP => true,
         _ => false,
+    }
+}
+
+// The call that a letter cuts at every k; any other letter is as it was.
+fn whole(letter: u8) -> u8 {
+    match letter {
+        letters::CUT_FORMAT => FORMAT,
+        letters::CUT_WRITE => WRITE,
+        letters::CUT_START => START,
+        letters::CUT_ACKNOWLEDGE => ACKNOWLEDGE,
+        letters::CUT_FAULT => FAULT,
+        _ => letter,
     }
 }
 
@@ -115,13 +135,13 @@ fn set_by(r: Request, before: Settings) -> Settings {
     let mut next = before;
     let letter = r.letter;
     match letter {
-        b'F' | b'f' => {
+        FORMAT | letters::CUT_FORMAT => {
             next.length = r.e;
         }
-        b'L' => {
+        letters::LENGTH => {
             next.length = r.k;
         }
-        b'I' => {
+        letters::SHOW => {
             next.shown = r.k == 1;
         }
         _ => {}
@@ -136,19 +156,20 @@ fn play_request(area: &mut [u8], n: usize, r: Request, state: Record, shown: boo
     if is_call(r.letter) {
         return call_line(area, n, r, state);
     }
-    if r.letter == b'E' || r.letter == b'G' {
+    if r.letter == letters::COMMIT_FORECAST || r.letter == letters::FAULT_FORECAST {
         forecast_line(&area[0..n], state, r);
         return state;
     }
-    if r.letter >= b'a' && r.letter <= b'z' {
+    let letter = whole(r.letter);
+    if letter != r.letter {
         io::write_all(1, b"\n");
         let mut asked = r;
-        asked.letter = r.letter % 32 + 64;
+        asked.letter = letter;
         every_cut(area, n, state, asked, shown);
         return state;
     }
     other_line(area, n, r);
-    if r.letter == b'Q' {
+    if r.letter == letters::CHANGE_RECORD {
         return changed(state, r.k, (r.a % 65536) as u16);
     }
     state

@@ -94,6 +94,14 @@ pub digit-some : (place n : ℕ) → place ≤ n → digit-at place n ≡ (48 + 
 unfolding digit-at
 digit-some place n l = if-true _ _ (le-leb place n l)
 
+-- a number of one digit
+pub decimal-small : (n : ℕ) → n < 10 → decimal n ≡ (48 + n) ∷ []
+unfolding decimal
+decimal-small n l =
+    let last : n % 10 ≡ n = omega arith in
+    let no : (place : ℕ) → 10 ≤ place → digit-at place n ≡ [] = λ place h. digit-none place n (omega arith) in
+    rw (no 10000 (omega arith), no 1000 (omega arith), no 100 (omega arith), no 10 (omega arith)) (rw last)
+
 -- the text of one byte more
 bytes-append : (bs cs : List ℕ) → bytes-text (bs ++ cs) ≡ bytes-text bs ++ bytes-text cs
 unfolding bytes-text byte-text

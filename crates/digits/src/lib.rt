@@ -27,8 +27,8 @@ fn put_digit(out: &mut [u8], at: usize, place: usize, n: usize) -> usize
     put(out, at, b'0' + digit)
 }
 
-// A number up to 99,999.
-pub fn put_decimal(out: &mut [u8], at: usize, n: usize) -> usize
+// The digits of a number up to 99,999.
+fn put_digits(out: &mut [u8], at: usize, n: usize) -> usize
     requires { ⌜ at + 5 ≤ length (now out) ⌝ }
     ensures { λ r. ⌜ Appends (decimal n) at (now (out .entry)) r (now (out .exit)) ⌝ }
 {
@@ -38,6 +38,18 @@ pub fn put_decimal(out: &mut [u8], at: usize, n: usize) -> usize
     let d = put_digit(out, c, 10, n);
     let digit = (n % 10) as u8;
     put(out, d, b'0' + digit)
+}
+
+// A number up to 99,999. Most have one digit.
+pub fn put_decimal(out: &mut [u8], at: usize, n: usize) -> usize
+    requires { ⌜ at + 5 ≤ length (now out) ⌝ }
+    ensures { λ r. ⌜ Appends (decimal n) at (now (out .entry)) r (now (out .exit)) ⌝ }
+{
+    if n < 10 {
+        let digit = n as u8;
+        return put(out, at, b'0' + digit);
+    }
+    put_digits(out, at, n)
 }
 
 // A hexadecimal digit, in capitals ('A' is 65).
@@ -63,8 +75,20 @@ fn put_byte(out: &mut [u8], at: usize, byte: u8) -> usize
     at + 2
 }
 
-// A group: four hexadecimal digits.
-pub fn put_group(out: &mut [u8], at: usize, group: u16) -> usize
+// The empty group.
+fn put_zeros(out: &mut [u8], at: usize) -> usize
+    requires { ⌜ at + 4 ≤ length (now out) ⌝ }
+    ensures { λ r. ⌜ Appends (group-text 0) at (now (out .entry)) r (now (out .exit)) ⌝ }
+{
+    out[at] = b'0';
+    out[at + 1] = b'0';
+    out[at + 2] = b'0';
+    out[at + 3] = b'0';
+    at + 4
+}
+
+// The high byte of a group, then the low one.
+fn put_two(out: &mut [u8], at: usize, group: u16) -> usize
     requires { ⌜ at + 4 ≤ length (now out) ⌝ }
     ensures { λ r. ⌜ Appends (group-text group) at (now (out .entry)) r (now (out .exit)) ⌝ }
 {
@@ -72,6 +96,17 @@ pub fn put_group(out: &mut [u8], at: usize, group: u16) -> usize
     let low = (group % 256) as u8;
     let a = put_byte(out, at, high);
     put_byte(out, a, low)
+}
+
+// A group: four hexadecimal digits. Most are empty.
+pub fn put_group(out: &mut [u8], at: usize, group: u16) -> usize
+    requires { ⌜ at + 4 ≤ length (now out) ⌝ }
+    ensures { λ r. ⌜ Appends (group-text group) at (now (out .entry)) r (now (out .exit)) ⌝ }
+{
+    if group == 0 {
+        return put_zeros(out, at);
+    }
+    put_two(out, at, group)
 }
 
 // Bytes: two hexadecimal digits each.

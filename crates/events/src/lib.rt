@@ -1,156 +1,133 @@
-// A line of events taken apart: one function for each letter, and one that chooses by the letter.
-use fields::after;
-use fields::before;
-use fields::first_number;
+// A line of events taken apart: its letter, the numbers behind it, and the bytes that the lines of some letters end in.
+use fields::Numbers;
+use fields::Values;
+use fields::first_letter;
 use fields::read_bytes;
-use fields::well_parted;
+use fields::read_numbers;
 use protocol::Shape;
+use text::ACKNOWLEDGE;
 use text::Bytes;
-use text::Number;
+use text::FAULT;
+use text::FORMAT;
+use text::Letter;
+use text::POWER_UP;
 use text::Parsed;
+use text::READ;
+use text::START;
+use text::UNREADABLE;
+use text::WRITE;
 ghost use mathlib.Core.Path.{_≡_};
-ghost use mathlib.Core.Bool.{cond};
+ghost use mathlib.Core.Bool.{true, false};
 ghost use mathlib.Core.List.{List};
-ghost use Prim.Native.Nat.{ℕ, _≤_, _<_};
-ghost use lib.ListN.{length, getD};
-ghost use Rattle.text.specs.Events.{meant, taken, format-of, read-of, write-of, start-of, acknowledge-of};
-ghost use Rattle.text.specs.Events.{fault-of, allow-of, by-letter};
-ghost use Rattle.text.specs.Events.{counted};
+ghost use Prim.Native.Nat.{ℕ, _≤_};
+ghost use lib.ListN.{length, take};
+ghost use Rattle.text.specs.Fields.{before};
+ghost use Rattle.text.specs.Letters.{letter-of};
+ghost use Rattle.text.specs.Events.{meant, counted, with-letter, taken};
+ghost use Rattle.text.specs.declared.Letter.the-variants.{Listed};
+ghost use Rattle.fields.specs.Numbers.{values-of};
+ghost use Rattle.events.specs.Made.{bytes-last, of-numbers, of-bytes};
 
-// F: boards, size of a block, blocks, size of a context.
-fn take_format(line: &[u8]) -> Parsed
-    ensures { λ r. ⌜ ((b : List ℕ) → meant r b ≡ format-of (now (line .entry))) × (counted r ≤ 80) ⌝ }
+// The longest line.
+const LONGEST: usize = 160;
+
+// Whether the last field of a letter's lines is bytes.
+fn ends_in_bytes(letter: u8) -> bool
+    ensures { λ r. ⌜ r ≡ bytes-last letter ⌝ }
 {
-    let first = after(line);
-    let Number::Value(boards) = first_number(first) else {
-        return Parsed::Unreadable;
-    };
-    let second = after(first);
-    let Number::Value(size) = first_number(second) else {
-        return Parsed::Unreadable;
-    };
-    let third = after(second);
-    let Number::Value(blocks) = first_number(third) else {
-        return Parsed::Unreadable;
-    };
-    let Number::Value(context) = first_number(after(third)) else {
-        return Parsed::Unreadable;
-    };
-    Parsed::Format {
-        shape: Shape {
-            boards,
-            size,
-            blocks,
-            context,
-        },
+    match letter {
+        WRITE | START | ACKNOWLEDGE => true,
+        _ => false,
     }
 }
 
-// R: board, cell, how many bytes.
-fn take_read(line: &[u8]) -> Parsed
-    ensures { λ r. ⌜ ((b : List ℕ) → meant r b ≡ read-of (now (line .entry))) × (counted r ≤ 80) ⌝ }
+// F, R, X, U, else Z, with its numbers.
+fn with_values(letter: u8, v: Values) -> Parsed
+    ensures { λ r. ⌜ ((b : List ℕ) → meant r b ≡ of-numbers letter (values-of v)) × (counted r ≤ 80) ⌝ }
 {
-    let first = after(line);
-    let Number::Value(board) = first_number(first) else {
-        return Parsed::Unreadable;
-    };
-    let second = after(first);
-    let Number::Value(cell) = first_number(second) else {
-        return Parsed::Unreadable;
-    };
-    let Number::Value(n) = first_number(after(second)) else {
-        return Parsed::Unreadable;
-    };
-    Parsed::Read { board, cell, n }
-}
-
-// W: board, cell, bytes.
-fn take_write(line: &[u8], buffer: &mut [u8]) -> Parsed
-    requires { ⌜ (length (now line) ≤ 160) × (80 ≤ length (now buffer)) ⌝ }
-    ensures { λ r. ⌜ (meant r (now (buffer .exit)) ≡ write-of (now (line .entry))) × (counted r ≤ 80) ⌝ }
-{
-    let first = after(line);
-    let Number::Value(board) = first_number(first) else {
-        return Parsed::Unreadable;
-    };
-    let second = after(first);
-    let Number::Value(cell) = first_number(second) else {
-        return Parsed::Unreadable;
-    };
-    let Bytes::Count(count) = read_bytes(before(after(second)), buffer) else {
-        return Parsed::Unreadable;
-    };
-    Parsed::Write { board, cell, count }
-}
-
-// C starts a commit, A acknowledges it: board, bytes of its context.
-fn take_commit(line: &[u8], buffer: &mut [u8], starts: bool) -> Parsed
-    requires { ⌜ (length (now line) ≤ 160) × (80 ≤ length (now buffer)) ⌝ }
-    ensures { λ r. ⌜ (meant r (now (buffer .exit)) ≡ cond starts (start-of (now (line .entry)))
-        (acknowledge-of (now (line .entry)))) × (counted r ≤ 80) ⌝ }
-{
-    let first = after(line);
-    let Number::Value(board) = first_number(first) else {
-        return Parsed::Unreadable;
-    };
-    let Bytes::Count(count) = read_bytes(before(after(first)), buffer) else {
-        return Parsed::Unreadable;
-    };
-    if starts {
-        return Parsed::Start { board, count };
+    if letter == FORMAT {
+        return Parsed::Format {
+            shape: Shape {
+                boards: v.first,
+                size: v.second,
+                blocks: v.third,
+                context: v.fourth,
+            },
+        };
     }
-    Parsed::Acknowledge { board, count }
-}
-
-// X: board.
-fn take_fault(line: &[u8]) -> Parsed
-    ensures { λ r. ⌜ ((b : List ℕ) → meant r b ≡ fault-of (now (line .entry))) × (counted r ≤ 80) ⌝ }
-{
-    let Number::Value(board) = first_number(after(line)) else {
-        return Parsed::Unreadable;
-    };
-    Parsed::Fault { board }
-}
-
-// Z: the allowance.
-fn take_allow(line: &[u8]) -> Parsed
-    ensures { λ r. ⌜ ((b : List ℕ) → meant r b ≡ allow-of (now (line .entry))) × (counted r ≤ 80) ⌝ }
-{
-    let Number::Value(k) = first_number(after(line)) else {
-        return Parsed::Unreadable;
-    };
-    Parsed::Allow { k }
-}
-
-// The letter chooses.
-fn by_letter(line: &[u8], buffer: &mut [u8]) -> Parsed
-    requires { ⌜ (0 < length (now line)) × (length (now line) ≤ 160) × (80 ≤ length (now buffer)) ⌝ }
-    ensures { λ r. ⌜ (meant r (now (buffer .exit)) ≡ by-letter (getD (now (line .entry)) 0 0) (now (line .entry)))
-        × (counted r ≤ 80) ⌝ }
-{
-    let letter = line[0];
-    if letter == b'F' {
-        return take_format(line);
+    if letter == READ {
+        return Parsed::Read {
+            board: v.first,
+            cell: v.second,
+            n: v.third,
+        };
     }
-    if letter == b'R' {
-        return take_read(line);
+    if letter == FAULT {
+        return Parsed::Fault { board: v.first };
     }
-    if letter == b'W' {
-        return take_write(line, buffer);
-    }
-    if letter == b'C' {
-        return take_commit(line, buffer, true);
-    }
-    if letter == b'A' {
-        return take_commit(line, buffer, false);
-    }
-    if letter == b'X' {
-        return take_fault(line);
-    }
-    if letter == b'U' {
+    if letter == POWER_UP {
         return Parsed::PowerUp;
     }
-    take_allow(line)
+    Parsed::Allow { k: v.first }
+}
+
+// A line whose fields behind the letter are numbers, as many as it has commas.
+fn take_numbers(line: &[u8], letter: u8, commas: u8) -> Parsed
+    requires { ⌜ (letter-of (before (now line)) ≡ Listed letter commas) × (bytes-last letter ≡ false) ⌝ }
+    ensures { λ r. ⌜ ((b : List ℕ) → meant r b ≡ with-letter (Listed letter commas) (now (line .entry)))
+        × (counted r ≤ 80) ⌝ }
+{
+    let Numbers::All(values) = read_numbers(line, commas as usize) else {
+        return Parsed::Refused(UNREADABLE);
+    };
+    if values.end < line.len() {
+        return Parsed::Refused(UNREADABLE);
+    }
+    with_values(letter, values)
+}
+
+// W, C, else A, with its numbers and the count of its bytes.
+fn with_count(letter: u8, v: Values, count: usize) -> Parsed
+    ensures { λ r. ⌜ ((b : List ℕ) → meant r b ≡ of-bytes letter (values-of v) (take count b)) × (counted r ≡ count) ⌝ }
+{
+    if letter == WRITE {
+        return Parsed::Write {
+            board: v.first,
+            cell: v.second,
+            count,
+        };
+    }
+    if letter == START {
+        return Parsed::Start {
+            board: v.first,
+            count,
+        };
+    }
+    Parsed::Acknowledge {
+        board: v.first,
+        count,
+    }
+}
+
+// A line whose last field is bytes, and those between it and the letter are numbers.
+fn take_bytes(line: &[u8], letter: u8, commas: u8, buffer: &mut [u8]) -> Parsed
+    requires { ⌜ (letter-of (before (now line)) ≡ Listed letter commas) × (bytes-last letter ≡ true)
+        × (length (now line) ≤ 160) × (80 ≤ length (now buffer)) ⌝ }
+    ensures { λ r. ⌜ (meant r (now (buffer .exit)) ≡ with-letter (Listed letter commas) (now (line .entry)))
+        × (counted r ≤ 80) ⌝ }
+{
+    let Numbers::All(values) = read_numbers(line, (commas - 1) as usize) else {
+        return Parsed::Refused(UNREADABLE);
+    };
+    let end = values.end;
+    if end >= line.len() {
+        return Parsed::Refused(UNREADABLE);
+    }
+    let from = end + 1;
+    let Bytes::Count(count) = read_bytes(&line[from..], buffer) else {
+        return Parsed::Refused(UNREADABLE);
+    };
+    with_count(letter, values, count)
 }
 
 // A line taken apart; its bytes stand at the buffer's start.
@@ -158,8 +135,14 @@ pub fn take_apart(line: &[u8], buffer: &mut [u8]) -> Parsed
     requires { ⌜ 80 ≤ length (now buffer) ⌝ }
     ensures { λ r. ⌜ (meant r (now (buffer .exit)) ≡ taken (now (line .entry))) × (counted r ≤ 80) ⌝ }
 {
-    if !well_parted(line) {
-        return Parsed::Unreadable;
+    if line.len() > LONGEST {
+        return Parsed::Refused(UNREADABLE);
     }
-    by_letter(line, buffer)
+    let Letter::Listed(letter, commas) = first_letter(line) else {
+        return Parsed::Refused(UNREADABLE);
+    };
+    if ends_in_bytes(letter) {
+        return take_bytes(line, letter, commas, buffer);
+    }
+    take_numbers(line, letter, commas)
 }

@@ -1,16 +1,38 @@
 // The fields of an event line, read: each as an enum.
 use text::Bytes;
-use text::COMMAS;
-use text::LETTERS;
-use text::Number;
+use text::Letter;
+use text::TABLE;
+use text::UNREADABLE;
 ghost use mathlib.Core.Path.{_≡_};
-ghost use mathlib.Core.Bool.{true, cond};
-ghost use Prim.Native.Nat.{_*_, _≤_, _<_};
-ghost use lib.ListN.{length, getD};
+ghost use mathlib.Core.Bool.{true};
+ghost use Prim.Native.Nat.{_*_, _≤_};
+ghost use lib.Dec.{eqb};
+ghost use lib.ListN.{length};
 ghost use Rattle.protocol.specs.Calls.{filled};
-ghost use Rattle.text.specs.Fields.{until, before, after, commas, number-from, number-of, digit, pairs, decoded};
-ghost use Rattle.text.specs.Events.{listed, well-parted};
-ghost use Rattle.text.specs.declared.Bytes.the-variants.{Count, Malformed};
+ghost use Rattle.text.specs.Fields.{until, before, Value, number-from, number-of, digit, pairs, decoded};
+ghost use Rattle.text.specs.Letters.{table, looked-up, letter-of};
+ghost use Rattle.fields.specs.Numbers.{measured, Numbered, Bytes-read};
+
+// A field read as a number, with its length; or it is another.
+pub enum Field {
+    Number(usize, usize),
+    Other,
+}
+
+// The numbers behind a line's letter, as many as are due, and where the last field that was read ends.
+pub struct Values {
+    pub first: usize,
+    pub second: usize,
+    pub third: usize,
+    pub fourth: usize,
+    pub end: usize,
+}
+
+// These numbers; or one of them is missing or is none, and the line is refused.
+pub enum Numbers {
+    All(Values),
+    Refused(u8),
+}
 
 // How many characters stand before the first d.
 pub fn find(s: &[u8], d: u8) -> usize
@@ -26,95 +48,115 @@ pub fn find(s: &[u8], d: u8) -> usize
     i
 }
 
-// The text before the first comma, and after it.
-pub fn before<'a>(s: &'a [u8]) -> &'a [u8]
-    ensures { λ r. ⌜ now r ≡ before (now (s .entry)) ⌝ }
+// A character as a letter of the table.
+fn look_up(c: u8) -> Letter
+    ensures { λ r. ⌜ r ≡ looked-up c table ⌝ }
 {
-    let n = find(s, b',');
-    &s[0..n]
-}
-
-pub fn after<'a>(s: &'a [u8]) -> &'a [u8]
-    ensures { λ r. ⌜ now r ≡ after (now (s .entry)) ⌝ }
-{
-    let n = find(s, b',');
-    if n >= s.len() {
-        return &s[0..0];
-    }
-    let at = n + 1;
-    &s[at..]
-}
-
-// The commas of a line.
-fn commas(s: &[u8]) -> u8
-    requires { ⌜ length (now s) ≤ 160 ⌝ }
-    ensures { λ r. ⌜ r ≡ commas (now (s .entry)) ⌝ }
-{
-    let mut n: u8 = 0;
-    let mut i = 0;
-    while i < s.len() {
-        if s[i] == b',' {
-            n += 1;
+    for i in 0..8 {
+        let entry = TABLE[i];
+        if entry.letter == c {
+            return Letter::Listed(c, entry.commas);
         }
-        i += 1;
     }
-    n
+    Letter::Unlisted
 }
 
-// The digits before the first comma as a number, leading zeros allowed.
-fn number_from(s: &[u8]) -> Number
-    ensures { λ r. ⌜ r ≡ number-from 0 (before (now (s .entry))) ⌝ }
+// Whether the field before the first comma has one character.
+fn one_character(s: &[u8]) -> bool
+    ensures { λ r. ⌜ r ≡ eqb (length (before (now (s .entry)))) 1 ⌝ }
+{
+    if s.len() == 0 {
+        return false;
+    }
+    if s[0] == b',' {
+        return false;
+    }
+    if s.len() == 1 {
+        return true;
+    }
+    s[1] == b','
+}
+
+// The field before the first comma as a letter, which stands alone in it.
+pub fn first_letter(s: &[u8]) -> Letter
+    ensures { λ r. ⌜ r ≡ letter-of (before (now (s .entry))) ⌝ }
+{
+    if !one_character(s) {
+        return Letter::Unlisted;
+    }
+    look_up(s[0])
+}
+
+// A field of n digits that make v: a number, unless there is none or a zero leads others.
+fn without_zeros(s: &[u8], n: usize, v: usize) -> Field
+    requires { ⌜ (n ≡ length (before (now s))) × (number-from 0 (before (now s)) ≡ Value v) ⌝ }
+    ensures { λ r. ⌜ r ≡ measured (number-of (before (now (s .entry)))) (length (before (now (s .entry)))) ⌝ }
+{
+    if n == 0 {
+        return Field::Other;
+    }
+    if n == 1 {
+        return Field::Number(v, n);
+    }
+    if s[0] == b'0' {
+        return Field::Other;
+    }
+    Field::Number(v, n)
+}
+
+// The field before the first comma as a number of 0 to 65,535 without leading zeros.
+pub fn read_number(s: &[u8]) -> Field
+    ensures { λ r. ⌜ r ≡ measured (number-of (before (now (s .entry)))) (length (before (now (s .entry)))) ⌝ }
 {
     let mut v = 0;
     let mut i = 0;
     while i < s.len() {
         let c = s[i];
         if c == b',' {
-            return Number::Value(v);
+            return without_zeros(s, i, v);
         }
         if c < b'0' {
-            return Number::Invalid;
+            return Field::Other;
         }
         if c > b'9' {
-            return Number::Invalid;
+            return Field::Other;
         }
         v = 10 * v + (c - b'0') as usize;
         if v > 65535 {
-            return Number::Invalid;
+            return Field::Other;
         }
         i += 1;
     }
-    Number::Value(v)
+    without_zeros(s, i, v)
 }
 
-// A zero stands alone in its field.
-fn zero_alone(s: &[u8]) -> Number
-    requires { ⌜ (0 < length (now s)) × (getD (now s) 0 0 ≡ 48) ⌝ }
-    ensures { λ r. ⌜ r ≡ number-of (before (now (s .entry))) ⌝ }
+// The `due` fields behind a line's letter as numbers: each a number, then the rest.
+pub fn read_numbers(s: &[u8], due: usize) -> Numbers
+    requires { ⌜ (length (before (now s)) ≡ 1) × (due ≤ 4) ⌝ }
+    ensures { λ r. ⌜ Numbered (now (s .entry)) due r ⌝ }
 {
-    if s.len() == 1 {
-        return Number::Value(0);
+    let mut values = [0usize; 4];
+    let mut end = 1;
+    let mut i = 0;
+    while i < due {
+        if end >= s.len() {
+            return Numbers::Refused(UNREADABLE);
+        }
+        let from = end + 1;
+        let Field::Number(v, n) = read_number(&s[from..]) else {
+            return Numbers::Refused(UNREADABLE);
+        };
+        values[i] = v;
+        end = from + n;
+        i += 1;
     }
-    if s[1] == b',' {
-        return Number::Value(0);
-    }
-    Number::Invalid
-}
-
-// The field before the first comma as a number of 0 to 65,535 without leading zeros.
-pub fn first_number(s: &[u8]) -> Number
-    ensures { λ r. ⌜ r ≡ number-of (before (now (s .entry))) ⌝ }
-{
-    if s.len() == 0 {
-        return Number::Invalid;
-    }
-    if s[0] == b',' {
-        return Number::Invalid;
-    }
-    if s[0] == b'0' {
-        return zero_alone(s);
-    }
-    number_from(s)
+    Numbers::All(Values {
+        first: values[0],
+        second: values[1],
+        third: values[2],
+        fourth: values[3],
+        end,
+    })
 }
 
 // The value of a hexadecimal digit, 16 for any other character.
@@ -169,40 +211,11 @@ fn decode(s: &[u8], out: &mut [u8])
 // A field of pairs of hexadecimal digits becomes bytes at the buffer's start; any other changes nothing.
 pub fn read_bytes(s: &[u8], out: &mut [u8]) -> Bytes
     requires { ⌜ length (now s) ≤ 2 * length (now out) ⌝ }
-    ensures { λ r. ⌜ (r ≡ cond (pairs (now (s .entry))) (Count (length (decoded (now (s .entry))))) Malformed)
-        × (now (out .exit) ≡ cond (pairs (now (s .entry)))
-        (filled (decoded (now (s .entry))) (now (out .entry))) (now (out .entry))) ⌝ }
+    ensures { λ r. ⌜ Bytes-read (now (s .entry)) (now (out .entry)) r (now (out .exit)) ⌝ }
 {
     if !pairs(s) {
         return Bytes::Malformed;
     }
     decode(s, out);
     Bytes::Count(s.len() / 2)
-}
-
-// Whether the table has the letter with that many commas.
-fn listed(c: u8, n: u8) -> bool
-    ensures { λ r. ⌜ r ≡ listed c n ⌝ }
-{
-    for i in 0..8 {
-        if LETTERS[i] == c {
-            return COMMAS[i] == n;
-        }
-    }
-    false
-}
-
-// Whether a line has at most 160 characters and begins with a letter that has its count of commas and stands alone
-// in its field.
-pub fn well_parted(s: &[u8]) -> bool
-    ensures { λ r. ⌜ r ≡ well-parted (now (s .entry)) ⌝ }
-{
-    if s.len() > 160 {
-        return false;
-    }
-    if find(s, b',') != 1 {
-        return false;
-    }
-    let n = commas(s);
-    listed(s[0], n)
 }

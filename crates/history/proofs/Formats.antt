@@ -15,6 +15,7 @@ use Rattle.protocol.specs.Ledger.{done, cut, refused as turned-away}
 use Rattle.protocol.specs.Claim.{verdict}
 use Rattle.protocol.specs.declared.Shape.{Shape}
 use Rattle.protocol.proofs.Outcomes.{not-done, not-cut, done-status, cut-status}
+use Rattle.text.specs.Letters.{power-up-letter}
 use Rattle.text.specs.Turns.{Player, uncut, row, moved, ended, play}
 use Rattle.history.specs.History.{zeros, begun, Formats-anew}
 
@@ -56,6 +57,6 @@ module _ (letter : ℕ) (o : Outcome) where
 
   pub ended-cut : verdict o ≡ cut →
       let u = perform (o .image) (o .reply .next) Power-up uncut in
-      ended letter o ≡ record { rows = row letter o ∷ row 85 u ∷ []; next = moved u }
+      ended letter o ≡ record { rows = row letter o ∷ row power-up-letter u ∷ []; next = moved u }
   unfolding ended
   ended-cut v = let e : eqb (o .reply .answer .status) 9 ≡ true = ap (λ n. eqb n 9) (cut-status o v) in rw e

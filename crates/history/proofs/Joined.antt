@@ -11,10 +11,11 @@ use Rattle.protocol.specs.Claim.{System, Call, answer, next, formatted, later}
 use Rattle.protocol.specs.declared.Shape.{Shape}
 use Rattle.protocol.proofs.Outcomes.{not-done}
 use Rattle.protocol.proofs.Demand3.{demand-3}
-use Rattle.text.specs.Events.{Event, Format, Make, Allow, Unreadable, taken}
+use Rattle.text.specs.Events.{Event, Format, Make, Allow, Refused, taken}
+use Rattle.text.specs.Letters.{format-letter}
 use Rattle.text.specs.Turns.{Player, Turn, uncut, ended, play}
-use Rattle.text.specs.Whole.{Run, next-run, start}
-use Rattle.history.specs.History.{Line, run-after, player-after, begins, None-begins, zeros, begun}
+use Rattle.text.specs.Whole.{Line, Run, next-run, start}
+use Rattle.history.specs.History.{run-after, player-after, begins, None-begins, zeros, begun}
 use Rattle.history.specs.History.{system-begun, allowance, allowance-after, calls-of, calls-made, Agrees}
 use Rattle.history.specs.History.{Text-faithful}
 use Rattle.history.proofs.Runs.{after-line, none-begin, prints}
@@ -37,7 +38,7 @@ step s w k (Make request) h =
     let nine = eqb (perform (w .image) (w .state) request k .reply .answer .status) 9 in
     ⊎-elim (λ (e : nine ≡ true). rw e) (λ (e : nine ≡ false). rw e) (decide nine)
 step s w k (Allow j) h = refl
-step s w k Unreadable h = refl
+step s w k (Refused n) h = refl
 
 -- any lines
 follow : (s : Shape) (w : System) (k : ℕ) (r : Run) (ls : List Line) → r .player ≡ player-at w k → None-begins ls →
@@ -68,7 +69,7 @@ text-faithful text before f ls rest s h =
     let fine = within s p (λ e. not-done e (h .outcome)) in
     let first : play p (taken f) .next ≡ player-at w uncut =
     ap (λ (e : Event). play p e .next) (h .shape)
-    ∙ ap (λ (t : Turn). t .next) (formats-anew .turns s p fine ∙ ended-done 70 (begun s p) (h .outcome))
+    ∙ ap (λ (t : Turn). t .next) (formats-anew .turns s p fine ∙ ended-done format-letter (begun s p) (h .outcome))
     in
     let last = follow s w uncut (next-run (run-after start before) f) ls first (h .none-begins) in (
       prints (h .plays),

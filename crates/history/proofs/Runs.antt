@@ -7,14 +7,14 @@ use mathlib.Core.Logic.{⊎-elim}
 use native.Mathlib.Omega.{arith}
 use lib.Dec.{eqb}
 use lib.ListN.{length}
-use borrow.Author.Tests.{lt-ltb}
 use Rattle.boards.specs.Lists.{anyOf}
 use Rattle.boards.proofs.Basics.{decide, or-false}
 use Rattle.protocol.specs.Calls.{Outcome}
-use Rattle.text.specs.Events.{Event, Format, Make, Allow, Unreadable, taken}
+use Rattle.text.specs.Events.{Event, Format, Make, Allow, Refused, taken}
 use Rattle.text.specs.Turns.{Player, uncut, ended, play}
-use Rattle.text.specs.Whole.{Run, most-lines, line-text, next-run, output-from, start, output}
-use Rattle.history.specs.History.{Line, run-after, printed, player-after, begins, None-begins, allowance}
+use Rattle.text.specs.Whole.{Line, output-by, Run, start, most-lines, line-text, next-run, rsmrun, output}
+use Rattle.text.proofs.Steps.{output-goes, run-goes}
+use Rattle.history.specs.History.{run-after, printed, player-after, begins, None-begins, allowance}
 use Rattle.history.specs.History.{Plays, Prints, Allowance-left}
 
 -- ---- lines
@@ -36,19 +36,19 @@ none-begin l ls h = or-false (begins (taken l)) (anyOf (λ m. begins (taken m)) 
 
 -- ---- output
 
-continued : (r : Run) (ls rest : List Line) → r .played + length ls ≤ most-lines →
-    output-from r (ls ++ rest) ≡ printed r ls ++ output-from (run-after r ls) rest
-unfolding output-from run-after next-run printed
-continued r [] rest h = refl
-continued r (l ∷ ls) rest h =
+all-played : (r : Run) (ls rest : List Line) → r .played + length ls ≤ most-lines →
+    output-by rsmrun r (ls ++ rest) ≡ printed r ls ++ output-by rsmrun (run-after r ls) rest
+unfolding run-after next-run printed
+all-played r [] rest h = refl
+all-played r (l ∷ ls) rest h =
     let r′ = next-run r l in
-    rw (lt-ltb (r .played) most-lines (omega arith))
-    (ap (λ (t : List ℕ). line-text r l ++ t) (continued r′ ls rest (omega arith))
-    ∙ sym (append-assoc (line-text r l) (printed r′ ls) (output-from (run-after r′ ls) rest)))
+    output-goes rsmrun l (ls ++ rest) (run-goes r l (omega arith))
+    ∙ ap (λ (t : List ℕ). line-text r l ++ t) (all-played r′ ls rest (omega arith))
+    ∙ sym (append-assoc (line-text r l) (printed r′ ls) (output-by rsmrun (run-after r′ ls) rest))
 
 pub prints : {text : List ℕ} {ls rest : List Line} → Plays text ls rest → Prints text ls rest
 unfolding output start
-prints {ls = ls} {rest = rest} h = ap (output-from start) (h .whole) ∙ continued start ls rest (omega arith)
+prints {ls = ls} {rest = rest} h = ap (output-by rsmrun start) (h .whole) ∙ all-played start ls rest (omega arith)
 
 -- ---- allowances
 
@@ -63,7 +63,7 @@ unfolding play allowance
 spent p (Format s) = ended-spent _ _
 spent p (Make request) = ended-spent _ _
 spent p (Allow k) = refl
-spent p Unreadable = refl
+spent p (Refused n) = refl
 
 pub allowance-left : Allowance-left
 unfolding run-after next-run

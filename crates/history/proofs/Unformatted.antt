@@ -22,10 +22,11 @@ use Rattle.protocol.specs.Claim.{verdict}
 use Rattle.protocol.specs.declared.Shape.{Shape}
 use Rattle.protocol.proofs.Outcomes.{not-cut, cut-not-done}
 use Rattle.protocol.proofs.Format.{format-stores}
-use Rattle.text.specs.Events.{Event, Format, Make, Allow, Unreadable, taken}
-use Rattle.text.specs.Turns.{Player, Turn, uncut, row, moved, ended, letter-of, play}
-use Rattle.text.specs.Whole.{Run, next-run, start}
-use Rattle.history.specs.History.{Line, run-after, player-after, begins, None-begins, zeros, begun, row-11}
+use Rattle.text.specs.Events.{Event, Format, Make, Allow, Refused, taken}
+use Rattle.text.specs.Letters.{format-letter, power-up-letter}
+use Rattle.text.specs.Turns.{Player, Turn, uncut, row, moved, ended, request-letter, play}
+use Rattle.text.specs.Whole.{Line, Run, next-run, start}
+use Rattle.history.specs.History.{run-after, player-after, begins, None-begins, zeros, begun, row-11}
 use Rattle.history.specs.History.{Refuses, Text-refused}
 use Rattle.history.proofs.Runs.{after-line, none-begin, prints}
 use Rattle.history.proofs.Formats.{within, carried, formats-anew, ended-cut}
@@ -116,13 +117,13 @@ module _ (s : Shape) (p : Player) (v : verdict (begun s p) ≡ cut) where
   -- the power-up after it is refused too
   cut-turn : play p (Format s)
       ≡ record {
-        rows = row 70 (begun s p) ∷ row-11 85 ∷ [];
+        rows = row format-letter (begun s p) ∷ row-11 power-up-letter ∷ [];
         next = record { image = begun s p .image; state = off; k = uncut };
       }
   unfolding refused
   cut-turn =
-      formats-anew .turns s p fine ∙ ended-cut 70 (begun s p) v
-      ∙ ap (λ u. record { rows = row 70 (begun s p) ∷ row 85 u ∷ []; next = moved u })
+      formats-anew .turns s p fine ∙ ended-cut format-letter (begun s p) v
+      ∙ ap (λ u. record { rows = row format-letter (begun s p) ∷ row power-up-letter u ∷ []; next = moved u })
       (ap (λ (r : Record). perform (begun s p .image) r Power-up uncut) cut-state
       ∙ all-refused (begun s p .image) Power-up uncut cut-image)
 
@@ -135,11 +136,11 @@ record Unmarked (p : Player) : Type 0 where
 
 unmarked-turn : (p : Player) (request : Request) → Unmarked p →
     play p (Make request)
-    ≡ record { rows = row-11 (letter-of request) ∷ []; next = record { image = p .image; state = off; k = uncut } }
+    ≡ record { rows = row-11 (request-letter request) ∷ []; next = record { image = p .image; state = off; k = uncut } }
 unfolding play ended refused
 unmarked-turn p request d =
-    ap (λ (r : Record). ended (letter-of request) (perform (p .image) r request (p .k))) (d .state)
-    ∙ ap (ended (letter-of request)) (all-refused (p .image) request (p .k) (d .image))
+    ap (λ (r : Record). ended (request-letter request) (perform (p .image) r request (p .k))) (d .state)
+    ∙ ap (ended (request-letter request)) (all-refused (p .image) request (p .k) (d .image))
 
 unmarked-step : (p : Player) (event : Event) → begins event ≡ false → Unmarked p → Unmarked (play p event .next)
 unfolding play begins ended format format-tests first refused
@@ -148,7 +149,7 @@ unmarked-step p (Make request) h d =
     subst (λ (t : Turn). Unmarked (t .next)) (sym (unmarked-turn p request d))
     (record { image = d .image; state = refl })
 unmarked-step p (Allow k) h d = record { image = d .image; state = d .state }
-unmarked-step p Unreadable h d = record { image = d .image; state = d .state }
+unmarked-step p (Refused n) h d = record { image = d .image; state = d .state }
 
 unmarked-lines : (r : Run) (ls : List Line) → Unmarked (r .player) → None-begins ls → Unmarked (run-after r ls .player)
 unfolding run-after next-run

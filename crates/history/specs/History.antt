@@ -13,15 +13,13 @@ use Rattle.protocol.specs.Calls.{Request, Power-up, Outcome, refusal-of, format
 use Rattle.protocol.specs.Ledger.{Verdict, refused, done, cut}
 use Rattle.protocol.specs.Claim.{verdict, System, Call, answer, formatted, later, Faithful}
 use Rattle.protocol.specs.declared.Shape.{Shape}
-use Rattle.text.specs.Events.{Event, Format, Make, Allow, Unreadable, taken}
+use Rattle.text.specs.Events.{Event, Format, Make, Allow, Refused, taken}
 use Rattle.text.specs.Rows.{Row}
-use Rattle.text.specs.Turns.{Player, uncut, row, ended, letter-of, play}
-use Rattle.text.specs.Whole.{Run, lines, most-lines, line-text, next-run, output-from, start, output}
+use Rattle.text.specs.Letters.{format-letter, power-up-letter}
+use Rattle.text.specs.Turns.{Player, uncut, row, ended, request-letter, play}
+use Rattle.text.specs.Whole.{Line, lines, output-by, Run, start, most-lines, line-text, next-run, rsmrun, output}
 
 -- ---- lines
-
-abbrev pub Line : Type 0
-Line = List ℕ
 
 -- the run after some lines, and what they print where all are played; the player after the first lines of a text
 unfoldable pub run-after : Run → List Line → Run
@@ -40,7 +38,7 @@ unfoldable pub begins : Event → Bool
 begins (Format s) = allowed s
 begins (Make request) = false
 begins (Allow k) = false
-begins Unreadable = false
+begins (Refused n) = false
 
 abbrev pub None-begins : List Line → Type 0
 None-begins ls = anyOf (λ l. begins (taken l)) ls ≡ false
@@ -62,7 +60,7 @@ unfoldable pub allowance : Event → ℕ
 allowance (Format s) = uncut
 allowance (Make request) = uncut
 allowance (Allow k) = k
-allowance Unreadable = uncut
+allowance (Refused n) = uncut
 
 abbrev pub call : Request → ℕ → Call
 call request k = record { request = request; k = k }
@@ -74,7 +72,7 @@ calls-of w k (Make request) =
     let cut-now = eqb (answer w request k .reply .answer .status) 9 in
     call request k ∷ cond cut-now (call Power-up uncut ∷ []) []
 calls-of w k (Allow j) = []
-calls-of w k Unreadable = []
+calls-of w k (Refused n) = []
 
 -- the allowance of the line after some lines, of which the first has k
 unfoldable pub allowance-after : ℕ → List Line → ℕ
@@ -97,7 +95,7 @@ pub record Plays (text : List ℕ) (ls rest : List Line) : Type 0 where
 
 -- the text prints what these lines print, and then what the run after them prints of the rest
 abbrev pub Prints : List ℕ → List Line → List Line → Type 0
-Prints text ls rest = output text ≡ printed start ls ++ output-from (run-after start ls) rest
+Prints text ls rest = output text ≡ printed start ls ++ output-by rsmrun (run-after start ls) rest
 
 -- Whatever was played before a line, the next one has the allowance that it leaves.
 abbrev pub Allowance-left : Type 0
@@ -105,7 +103,7 @@ Allowance-left = (ls : List Line) (l : Line) → player-after (ls ++ l ∷ []) .
 
 -- An F within the limits prints what a format of zeros answers, which is done or cut.
 pub record Formats-anew : Type 0 where
-  pub turns : (s : Shape) (p : Player) → allowed s ≡ true → play p (Format s) ≡ ended 70 (begun s p)
+  pub turns : (s : Shape) (p : Player) → allowed s ≡ true → play p (Format s) ≡ ended format-letter (begun s p)
   pub not-refused : (s : Shape) (p : Player) → allowed s ≡ true → verdict (begun s p) ≢ refused
 
 -- A stretch of a text: an F of shape s with this verdict, and lines after it of which none begins a new image.
@@ -123,7 +121,7 @@ pub record Agrees (w : System) (k : ℕ) (p : Player) : Type 0 where
   pub image : p .image ≡ w .image
   pub state : p .state ≡ w .state
   pub allowance-left : p .k ≡ k
-  pub turns : (request : Request) → play p (Make request) ≡ ended (letter-of request) (answer w request k)
+  pub turns : (request : Request) → play p (Make request) ≡ ended (request-letter request) (answer w request k)
 
 -- The text joined to demand 3: the player agrees with the system that the format and the calls of the lines leave, and
 -- demand 3 holds of these calls. The stretch may end after any of its lines.
@@ -146,7 +144,7 @@ row-11 letter = record { letter = letter; answer = refusal-of 11 off .answer; by
 -- the record is off, and a call line prints one row: 11, zeros and no, no bytes
 pub record Refuses (p : Player) : Type 0 where
   pub state : p .state ≡ off
-  pub turns : (request : Request) → play p (Make request) .rows ≡ row-11 (letter-of request) ∷ []
+  pub turns : (request : Request) → play p (Make request) .rows ≡ row-11 (request-letter request) ∷ []
 
 -- It is so before the first F within the limits, and after one that is cut, whose power-up is answered 11 too.
 pub record Text-refused : Type 0 where
@@ -157,5 +155,5 @@ pub record Text-refused : Type 0 where
       → let p = player-after before in
       let played = before ++ f ∷ ls in
       Prints text played rest
-      × (play p (Format s) .rows ≡ row 70 (begun s p) ∷ row-11 85 ∷ [])
+      × (play p (Format s) .rows ≡ row format-letter (begun s p) ∷ row-11 power-up-letter ∷ [])
       × Refuses (player-after played)

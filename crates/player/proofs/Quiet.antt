@@ -7,6 +7,7 @@ use lib.Dec.{eqb}
 use Rattle.protocol.specs.Calls.{Request, Write, Start, Acknowledge, Fault, Power-up, perform, plan, acknowledging}
 use Rattle.protocol.specs.declared.Requester.the-variants.{Board}
 use Rattle.volatile.specs.declared.Record.{Record}
+use Rattle.text.specs.Letters.{write-letter, start-letter, acknowledge-letter, fault-letter}
 use Rattle.turns.proofs.Laws.{no-bytes}
 use Rattle.player.specs.Requests.{request-of}
 
@@ -14,7 +15,7 @@ pub quiet : (letter i a : ℕ) (bytes : List ℕ) (k : ℕ) (image : List ℕ) (
     [] ≡ perform image r (request-of letter i a bytes) k .bytes
 unfolding request-of plan acknowledging
 quiet letter i a bytes k image r =
-    step (eqb letter 87) (eqb letter 67) (eqb letter 65) (eqb letter 88)
+    step (eqb letter write-letter) (eqb letter start-letter) (eqb letter acknowledge-letter) (eqb letter fault-letter)
   where
     Silent : Request → Type 0
     Silent request = [] ≡ perform image r request k .bytes

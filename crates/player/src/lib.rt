@@ -1,4 +1,4 @@
-// Plays an event on image, record and pending allowance, and writes its output lines.
+// Plays an event on image, record and pending allowance.
 use access::read;
 use access::write;
 use commit::acknowledge;
@@ -10,7 +10,16 @@ use layout::total;
 use protocol::Reply;
 use protocol::Shape;
 use recovery::power_up;
+use text::ACKNOWLEDGE;
+use text::ALLOW;
+use text::FAULT;
+use text::FORMAT;
+use text::POWER_UP;
 use text::Parsed;
+use text::READ;
+use text::START;
+use text::UNKNOWN;
+use text::WRITE;
 use turns::Session;
 use turns::Turned;
 use turns::UNCUT;
@@ -19,7 +28,8 @@ use turns::end_turn;
 use turns::tell;
 use volatile::Record;
 ghost use mathlib.Core.Path.{_≡_};
-ghost use Prim.Native.Nat.{_≤_};
+ghost use mathlib.Core.List.{List};
+ghost use Prim.Native.Nat.{ℕ, _≤_};
 ghost use lib.ListN.{length, take, replicate};
 ghost use Rattle.protocol.specs.Calls.{perform, Read};
 ghost use Rattle.protocol.specs.declared.Requester.the-variants.{Board};
@@ -50,59 +60,40 @@ fn format_anew(area: &mut [u8], state: Record, s: Shape, size: usize, k: usize) 
 }
 
 // A format within the limits first makes the image that length, all zero.
-fn play_format(
-    area: &mut [u8],
-    p: Session,
-    s: Shape,
-    none: &[u8],
-    number: usize,
-    out: &mut [u8],
-    at: usize,
-) -> Turned
-    requires { ⌜ Ready p at (now area) (now out) ⌝ }
-    ensures { λ r. ⌜ Turns (play (player-of p (now (area .entry))) (Format s)) number at
-        (now (out .entry)) r (now (area .exit)) (now (out .exit)) ⌝ }
+fn play_format(area: &mut [u8], p: Session, s: Shape) -> Turned
+    requires { ⌜ Ready p (now area) ⌝ }
+    ensures { λ r. ⌜ ((buffer : List ℕ) →
+        Turns (play (player-of p (now (area .entry))) (Format s)) r (now (area .exit)) buffer) ⌝ }
 {
     let state = p.state;
     if !allowed(s) {
         let length = p.length;
         let reply = format(&mut area[0..length], state, s, p.k);
-        return end_turn(area, length, reply, b'F', &none[0..0], number, out, at);
+        return end_turn(area, length, reply, FORMAT, 0);
     }
     let size = total(s);
     let reply = format_anew(area, state, s, size, p.k);
-    end_turn(area, size, reply, b'F', &none[0..0], number, out, at)
+    end_turn(area, size, reply, FORMAT, 0)
 }
 
+// A read; its bytes go to the start of the buffer.
 fn play_read(
     area: &mut [u8],
     p: Session,
     board: usize,
     cell: usize,
     n: usize,
-    number: usize,
-    out: &mut [u8],
-    at: usize,
+    buffer: &mut [u8],
 ) -> Turned
-    requires { ⌜ Ready p at (now area) (now out) ⌝ }
-    ensures { λ r. ⌜ Turns (play (player-of p (now (area .entry))) (Make (Read (Board board) cell n room))) number at
-        (now (out .entry)) r (now (area .exit)) (now (out .exit)) ⌝ }
+    requires { ⌜ (Ready p (now area)) × (64 ≤ length (now buffer)) ⌝ }
+    ensures { λ r. ⌜ Turns (play (player-of p (now (area .entry))) (Make (Read (Board board) cell n room))) r
+        (now (area .exit)) (now (buffer .exit)) ⌝ }
 {
     let length = p.length;
     let state = p.state;
-    let mut buffer = [0u8; 64];
-    let reply = read(&area[0..length], state, board, cell, n, &mut buffer);
+    let reply = read(&area[0..length], state, board, cell, n, &mut buffer[0..64]);
     let count = answered(reply.answer.status, n);
-    end_turn(
-        area,
-        length,
-        reply,
-        b'R',
-        &buffer[0..count],
-        number,
-        out,
-        at,
-    )
+    end_turn(area, length, reply, READ, count)
 }
 
 // The storing call of a letter: W, C, A, X, else U.
@@ -118,16 +109,16 @@ fn store_call(
     ensures { λ r. ⌜ Performed (request-of letter board cell (now (bytes .entry))) k (now (image .entry)) state
         r (now (image .exit)) ⌝ }
 {
-    if letter == b'W' {
+    if letter == WRITE {
         return write(image, state, board, cell, bytes, k);
     }
-    if letter == b'C' {
+    if letter == START {
         return start(image, state, board, bytes, k);
     }
-    if letter == b'A' {
+    if letter == ACKNOWLEDGE {
         return acknowledge(image, state, board, bytes, k);
     }
-    if letter == b'X' {
+    if letter == FAULT {
         return fault(image, state, board, k);
     }
     power_up(image, k)
@@ -141,62 +132,36 @@ fn play_call(
     board: usize,
     cell: usize,
     bytes: &[u8],
-    number: usize,
-    out: &mut [u8],
-    at: usize,
 ) -> Turned
-    requires { ⌜ Ready p at (now area) (now out) ⌝ }
-    ensures { λ r. ⌜ Turns (ended letter (perform (take (p .length) (now (area .entry))) (p .state)
-        (request-of letter board cell (now (bytes .entry))) (p .k))) number at
-        (now (out .entry)) r (now (area .exit)) (now (out .exit)) ⌝ }
+    requires { ⌜ Ready p (now area) ⌝ }
+    ensures { λ r. ⌜ ((buffer : List ℕ) → Turns (ended letter (perform (take (p .length) (now (area .entry))) (p .state)
+        (request-of letter board cell (now (bytes .entry))) (p .k))) r (now (area .exit)) buffer) ⌝ }
 {
     let length = p.length;
     let state = p.state;
     let reply = store_call(&mut area[0..length], state, letter, board, cell, bytes, p.k);
-    end_turn(area, length, reply, letter, &bytes[0..0], number, out, at)
+    end_turn(area, length, reply, letter, 0)
 }
 
-// Plays a line that was taken apart; its bytes stand at the start of the buffer.
-pub fn play(
-    area: &mut [u8],
-    p: Session,
-    line: Parsed,
-    buffer: &[u8],
-    number: usize,
-    out: &mut [u8],
-    at: usize,
-) -> Turned
-    requires { ⌜ (Ready p at (now area) (now out)) × (counted line ≤ length (now buffer)) ⌝ }
-    ensures { λ r. ⌜ Turns (play (player-of p (now (area .entry))) (meant line (now (buffer .entry)))) number at
-        (now (out .entry)) r (now (area .exit)) (now (out .exit)) ⌝ }
+// Plays a line that was taken apart; its bytes stand at the start of the buffer, and so do then those of its rows.
+pub fn play(area: &mut [u8], p: Session, line: Parsed, buffer: &mut [u8]) -> Turned
+    requires { ⌜ (Ready p (now area)) × (counted line ≤ length (now buffer)) × (64 ≤ length (now buffer)) ⌝ }
+    ensures { λ r. ⌜ Turns (play (player-of p (now (area .entry))) (meant line (now (buffer .entry)))) r
+        (now (area .exit)) (now (buffer .exit)) ⌝ }
 {
     match line {
-        Parsed::Format { shape } => play_format(area, p, shape, buffer, number, out, at),
-        Parsed::Read { board, cell, n } => play_read(area, p, board, cell, n, number, out, at),
+        Parsed::Format { shape } => play_format(area, p, shape),
+        Parsed::Read { board, cell, n } => play_read(area, p, board, cell, n, buffer),
         Parsed::Write { board, cell, count } => {
-            play_call(
-                area,
-                p,
-                b'W',
-                board,
-                cell,
-                &buffer[0..count],
-                number,
-                out,
-                at,
-            )
+            play_call(area, p, WRITE, board, cell, &buffer[0..count])
         }
-        Parsed::Start { board, count } => {
-            play_call(area, p, b'C', board, 0, &buffer[0..count], number, out, at)
-        }
+        Parsed::Start { board, count } => { play_call(area, p, START, board, 0, &buffer[0..count]) }
         Parsed::Acknowledge { board, count } => {
-            play_call(area, p, b'A', board, 0, &buffer[0..count], number, out, at)
+            play_call(area, p, ACKNOWLEDGE, board, 0, &buffer[0..count])
         }
-        Parsed::Fault { board } => {
-            play_call(area, p, b'X', board, 0, &buffer[0..0], number, out, at)
-        }
-        Parsed::PowerUp => play_call(area, p, b'U', 0, 0, &buffer[0..0], number, out, at),
-        Parsed::Allow { k } => tell(p, b'Z', 0, k, buffer, number, out, at),
-        Parsed::Unreadable => tell(p, b'?', 6, UNCUT, buffer, number, out, at),
+        Parsed::Fault { board } => play_call(area, p, FAULT, board, 0, &buffer[0..0]),
+        Parsed::PowerUp => play_call(area, p, POWER_UP, 0, 0, &buffer[0..0]),
+        Parsed::Allow { k } => tell(p, ALLOW, 0, k),
+        Parsed::Refused(n) => tell(p, UNKNOWN, n, UNCUT),
     }
 }

@@ -4,9 +4,12 @@ use digits::put_bytes;
 use digits::put_decimal;
 use digits::put_group;
 use protocol::Answer;
+use text::Follows;
+use text::POWER_UP;
+use text::Rows;
 ghost use Prim.Native.Nat.{_+_, _*_, _≤_};
 ghost use lib.ListN.{length};
-ghost use Rattle.text.specs.Rows.{row-text};
+ghost use Rattle.text.specs.Rows.{row-text, rows-text, rows-meant};
 ghost use Rattle.digits.specs.Append.{Appends};
 ghost use Rattle.printing.specs.Parts.{between, head-text, middle-text, tail-text};
 
@@ -53,8 +56,8 @@ fn put_tail(out: &mut [u8], at: usize, stores: usize, bytes: &[u8]) -> usize
     put(out, d, b'\n')
 }
 
-// A whole line, of at most 160 characters.
-pub fn put_row(
+// A row: a whole line, of at most 160 characters.
+fn put_row(
     out: &mut [u8],
     at: usize,
     number: usize,
@@ -70,4 +73,28 @@ pub fn put_row(
     let a = put_head(out, at, number, letter, answer.status);
     let b = put_middle(out, a, answer.decided, answer.group);
     put_tail(out, b, answer.stores, bytes)
+}
+
+// The rows of the line that has this number; the bytes that they count stand at the buffer's start.
+pub fn put_rows(out: &mut [u8], at: usize, number: usize, rows: Rows, buffer: &[u8]) -> usize
+    requires { ⌜ (at + 320 ≤ length (now out)) × (rows .first .count ≤ 64) × (64 ≤ length (now buffer)) ⌝ }
+    ensures { λ r. ⌜ Appends (rows-text number (rows-meant rows (now (buffer .entry)))) at
+        (now (out .entry)) r (now (out .exit)) ⌝ }
+    ensures { λ r. ⌜ r ≤ at + 320 ⌝ }
+{
+    let first = rows.first;
+    let count = first.count;
+    let end = put_row(
+        out,
+        at,
+        number,
+        first.letter,
+        first.answer,
+        &buffer[0..count],
+    );
+    let after = rows.after;
+    let Follows::PowerUp(answer) = after else {
+        return end;
+    };
+    put_row(out, end, number, POWER_UP, answer, &buffer[0..0])
 }

@@ -6,8 +6,8 @@ use mathlib.Core.List.{List, []}
 use mathlib.Core.Logic.{_≢_}
 use lib.Dec.{eqb}
 use lib.ListN.{length, take}
-use Rattle.text.specs.Whole.{Run as Whole, lines, output-from}
-use Rattle.runner.specs.Pieces.{Unbroken}
+use Rattle.text.specs.Whole.{lines, output-by, Run as Whole, rsmrun}
+use Rattle.pieces.specs.Pieces.{Unbroken}
 use Rattle.reading.specs.declared.Got.{Got}
 use Rattle.reading.specs.declared.Got.the-variants.{Text, End, Failed}
 
@@ -31,7 +31,7 @@ Over Failed rest = Unit {0}
 -- failed none
 unfoldable pub still-due : Got → Whole → List ℕ → List ℕ
 still-due (Text end) w rest = []
-still-due End w rest = output-from w (lines rest)
+still-due End w rest = output-by rsmrun w (lines rest)
 still-due Failed w rest = []
 
 pub record Last (got : Got) (w : Whole) (rest : List ℕ) (r : ℕ) (out : List ℕ) : Type 0 where

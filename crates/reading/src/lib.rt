@@ -1,12 +1,15 @@
 // What an answer of the system means to a run that reads its input, and what is played when no text comes any more.
+use printing::put_rows;
 use runner::MOST;
 use runner::Run;
 use runner::play_line;
 ghost use mathlib.Core.Path.{_≡_};
 ghost use Prim.Native.Nat.{_≤_};
 ghost use lib.ListN.{length, take};
-ghost use Rattle.text.specs.Whole.{lines, output-from};
-ghost use Rattle.runner.specs.Pieces.{Fits, Unbroken, run-of};
+ghost use Rattle.text.specs.Whole.{lines, output-by, rsmrun};
+ghost use Rattle.turns.specs.Turned.{Ready};
+ghost use Rattle.pieces.specs.Pieces.{Unbroken};
+ghost use Rattle.runner.specs.OneLine.{run-of};
 ghost use Rattle.reading.specs.Reading.{meaning, Over, Last};
 
 // Where the text that is to be played next ends; or there is none: at the input's end or after the last line that a run
@@ -36,8 +39,8 @@ pub fn meaning_of(failed: bool, interrupted: bool, held: usize, end: usize) -> G
 
 // At the input's end what is kept is a line, unless it is empty; how much output it gave.
 fn play_last(rest: &[u8], area: &mut [u8], run: Run, out: &mut [u8]) -> usize
-    requires { ⌜ (Unbroken (now rest)) × (Fits run (now area)) × (320 ≤ length (now out)) ⌝ }
-    ensures { λ r. ⌜ (r ≤ length (now (out .exit))) × (output-from (run-of run (now (area .entry)))
+    requires { ⌜ (Unbroken (now rest)) × (Ready (run .session) (now area)) × (320 ≤ length (now out)) ⌝ }
+    ensures { λ r. ⌜ (r ≤ length (now (out .exit))) × (output-by rsmrun (run-of run (now (area .entry)))
         (lines (now (rest .entry))) ≡ take r (now (out .exit))) ⌝ }
 {
     if rest.len() == 0 {
@@ -47,13 +50,14 @@ fn play_last(rest: &[u8], area: &mut [u8], run: Run, out: &mut [u8]) -> usize
         return 0;
     }
     let mut buffer = [0u8; 80];
-    let step = play_line(rest, area, run, &mut buffer, out, 0);
-    step.at
+    let played = play_line(rest, area, run, &mut buffer);
+    let rows = played.rows;
+    put_rows(out, 0, played.run.played, rows, &buffer)
 }
 
 // How much output is left when no text comes any more: that of the last line, and none after a read that failed.
 pub fn play_rest(got: Got, rest: &[u8], area: &mut [u8], run: Run, out: &mut [u8]) -> usize
-    requires { ⌜ (Over got (now rest)) × (Fits run (now area)) × (320 ≤ length (now out)) ⌝ }
+    requires { ⌜ (Over got (now rest)) × (Ready (run .session) (now area)) × (320 ≤ length (now out)) ⌝ }
     ensures { λ r. ⌜ Last got (run-of run (now (area .entry))) (now (rest .entry)) r (now (out .exit)) ⌝ }
 {
     match got {

@@ -1,21 +1,20 @@
-// Plays the whole lines of a piece of input.
+// One line of a run, played; what stands between two lines of a run; how many it takes.
 use events::take_apart;
-use fields::find;
 use player::play;
+use text::Rows;
 use turns::Session;
+use turns::UNCUT;
 use volatile::Record;
 ghost use mathlib.Core.Path.{_≡_};
 ghost use mathlib.Core.List.{[]};
-ghost use Prim.Native.Nat.{_+_, _≤_, _<_};
+ghost use Prim.Native.Nat.{_≤_, _<_};
 ghost use lib.ListN.{length};
 ghost use Rattle.text.specs.Whole.{start};
-ghost use Rattle.runner.specs.Pieces.{run-of, Fits, Steps, Progresses};
+ghost use Rattle.turns.specs.Turned.{Ready};
+ghost use Rattle.runner.specs.OneLine.{run-of, Line-played};
 
 // The lines that a run takes at most.
 pub const MOST: usize = 99999;
-
-// The room that the output of one line takes at most.
-const ROOM: usize = 320;
 
 // How many lines were played, and what stands between two lines.
 pub struct Run {
@@ -23,25 +22,10 @@ pub struct Run {
     pub session: Session,
 }
 
-// Why the lines of a piece stop: no line feed is left in it, the output has no room for one more line, or all lines
-// that a run takes were played.
-pub enum Stop {
-    Unfinished,
-    Full,
-    Limit,
-}
-
-pub struct Stepped {
+// The run after a line, and the rows of that line.
+pub struct Played {
     pub run: Run,
-    pub at: usize,
-}
-
-// The run after the lines of a piece, how much of the piece they are, how much output they gave, and why they stopped.
-pub struct Progress {
-    pub run: Run,
-    pub read: usize,
-    pub written: usize,
-    pub stop: Stop,
+    pub rows: Rows,
 }
 
 impl Run {
@@ -53,79 +37,26 @@ impl Run {
         let session = Session {
             length: 0,
             state,
-            k: 65535,
+            k: UNCUT,
         };
         Run { played: 0, session }
     }
 }
 
-// One line; the buffer is for its bytes.
-pub fn play_line(
-    line: &[u8],
-    area: &mut [u8],
-    run: Run,
-    buffer: &mut [u8],
-    out: &mut [u8],
-    at: usize,
-) -> Stepped
-    requires { ⌜ (Fits run (now area)) × (run .played < 99999) × (80 ≤ length (now buffer))
-        × (at + 320 ≤ length (now out)) ⌝ }
-    ensures { λ r. ⌜ Steps (run-of run (now (area .entry))) (now (line .entry)) at (now (out .entry)) r
-        (now (area .exit)) (now (out .exit)) ⌝ }
+// One line; its bytes go through the buffer, and those of its rows stand there afterwards.
+pub fn play_line(line: &[u8], area: &mut [u8], run: Run, buffer: &mut [u8]) -> Played
+    requires { ⌜ (Ready (run .session) (now area)) × (run .played < 99999) × (80 ≤ length (now buffer)) ⌝ }
+    ensures { λ r. ⌜ Line-played (run-of run (now (area .entry))) (now (line .entry)) r
+        (now (area .exit)) (now (buffer .exit)) ⌝ }
 {
     let parsed = take_apart(line, buffer);
-    let number = run.played + 1;
     let session = run.session;
-    let turned = play(area, session, parsed, buffer, number, out, at);
+    let turned = play(area, session, parsed, buffer);
     let next = turned.next;
+    let rows = turned.rows;
     let after = Run {
-        played: number,
+        played: run.played + 1,
         session: next,
     };
-    Stepped {
-        run: after,
-        at: turned.at,
-    }
-}
-
-// Plays the whole lines of a piece, as long as the output has room.
-pub fn play_lines(piece: &[u8], area: &mut [u8], run: Run, out: &mut [u8]) -> Progress
-    requires { ⌜ Fits run (now area) ⌝ }
-    ensures { λ r. ⌜ Progresses (run-of run (now (area .entry))) (now (piece .entry)) r
-        (now (area .exit)) (now (out .exit)) ⌝ }
-{
-    let mut buffer = [0u8; 80];
-    let mut now = run;
-    let mut read = 0;
-    let mut written = 0;
-    while now.played < MOST {
-        let n = find(&piece[read..], b'\n');
-        let end = read + n;
-        if end >= piece.len() {
-            return Progress {
-                run: now,
-                read,
-                written,
-                stop: Stop::Unfinished,
-            };
-        }
-        if out.len() - written < ROOM {
-            return Progress {
-                run: now,
-                read,
-                written,
-                stop: Stop::Full,
-            };
-        }
-        let step = play_line(&piece[read..end], area, now, &mut buffer, out, written);
-        now = step.run;
-        written = step.at;
-        read = end + 1;
-    }
-    Progress {
-        run: now,
-        read,
-        written,
-        stop: Stop::Limit,
-    }
+    Played { run: after, rows }
 }

@@ -6,11 +6,10 @@ use mathlib.Core.List.{List}
 use native.Mathlib.Omega.{arith}
 use lib.Dec.{eqb}
 use lib.ListN.{length, take}
-use Rattle.runner.specs.Pieces.{Unbroken}
 use Rattle.text.specs.Fields.{until}
-use Rattle.runner.specs.declared.Stop.{Stop}
-use Rattle.runner.specs.declared.Stop.the-variants.{Full, Limit}
-use Rattle.feeder.specs.Feeding.{Kept}
+use Rattle.pieces.specs.declared.Stop.{Stop}
+use Rattle.pieces.specs.declared.Stop.the-variants.{Full, Limit}
+use Rattle.pieces.specs.Pieces.{Unbroken, Kept}
 use Rattle.reading.specs.Reading.{meaning, Over}
 use Rattle.reading.specs.declared.Got.{Got}
 use Rattle.reading.specs.declared.Got.the-variants.{Text, End, Failed}

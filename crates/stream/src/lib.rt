@@ -1,14 +1,14 @@
 // Event lines from one open file, their answers to another.
 use feeder::feed;
+use pieces::Stop;
 use reading::Got;
 use reading::meaning_of;
 use reading::play_rest;
 use runner::Run;
-use runner::Stop;
 ghost use Prim.Native.Nat.{_+_, _≤_};
 ghost use lib.ListN.{length};
-ghost use Rattle.runner.specs.Pieces.{Fits};
-ghost use Rattle.feeder.specs.Feeding.{Kept};
+ghost use Rattle.turns.specs.Turned.{Ready};
+ghost use Rattle.pieces.specs.Pieces.{Kept};
 ghost use Rattle.reading.specs.Reading.{Over};
 ghost use Rattle.stream.specs.Texts.{Reads, Next};
 
@@ -32,7 +32,7 @@ fn read_behind(from: i32, size: usize, input: &mut [u8], held: usize) -> Got
 }
 
 // The text for the next turn: what is held where more of it is to be played, else what is read behind it.
-fn next_text(from: i32, size: usize, input: &mut [u8], held: usize, stop: Stop) -> Got
+pub fn next_text(from: i32, size: usize, input: &mut [u8], held: usize, stop: Stop) -> Got
     requires { ⌜ (161 + size ≤ length (now input)) × (Kept stop held (now input)) ⌝ }
     ensures { λ r. ⌜ Next r held (now (input .exit)) ⌝ }
 {
@@ -52,7 +52,7 @@ fn ending(got: Got) -> Ended {
 
 // No text comes any more: what is left is played and written.
 fn close(got: Got, to: i32, rest: &[u8], area: &mut [u8], run: Run, out: &mut [u8]) -> Ended
-    requires { ⌜ (Over got (now rest)) × (Fits run (now area)) × (320 ≤ length (now out)) ⌝ }
+    requires { ⌜ (Over got (now rest)) × (Ready (run .session) (now area)) × (320 ≤ length (now out)) ⌝ }
 {
     let n = play_rest(got, rest, area, run, out);
     if !io::write_all(to, &out[0..n]) {

@@ -1,47 +1,38 @@
 -- A line taken apart (document 01, "Event lines and `rsmrun`").
 use Prim.Native.Nat.{ℕ}
-use mathlib.Core.Bool.{Bool, _&&_, cond}
-use mathlib.Core.List.{List, [], _∷_}
+use mathlib.Core.Bool.{cond}
+use mathlib.Core.List.{List}
 use lib.Dec.{eqb, leb}
-use lib.ListN.{length, getD, take}
-use Rattle.boards.specs.Lists.{any}
+use lib.ListN.{length, take}
 use Rattle.protocol.specs.Calls.{Request, Read, Write, Start, Acknowledge, Fault, Power-up}
 use Rattle.protocol.specs.declared.Shape.{Shape}
 use Rattle.protocol.specs.declared.Requester.the-variants.{Board}
-use Rattle.text.specs.Fields.{codes, field, commas, number-of, pairs, decoded}
-use Rattle.text.specs.declared.Number.{Number}
-use Rattle.text.specs.declared.Number.the-variants.{Value, Invalid}
+use Rattle.text.specs.Fields.{field, commas, Number, Value, Invalid, number-of, pairs, decoded}
+use Rattle.text.specs.Letters.{format-letter, read-letter, write-letter, start-letter, acknowledge-letter}
+use Rattle.text.specs.Letters.{fault-letter, power-up-letter, letter-of}
+use Rattle.text.specs.declared.Letter.{Letter}
+use Rattle.text.specs.declared.Letter.the-variants.{Listed, Unlisted}
 use Rattle.text.specs.declared.Parsed.{Parsed}
 use Rattle.text.specs.declared.Parsed.the-variants as parsed
 
--- What a line asks for: a format, a request, the allowance of the next line; or it can't be taken apart.
+-- What a line asks for: a format, a request, the allowance of the next line; or it is refused by a number.
 pub data Event : Type 0 where
   Format : Shape → Event
   Make : Request → Event
   Allow : ℕ → Event
-  Unreadable : Event
+  Refused : ℕ → Event
 
--- the letters, and the commas of each
-unfoldable pub letters : List ℕ
-letters = codes "FRWCAXUZ"
-
-unfoldable pub due : List ℕ
-due = 4 ∷ 3 ∷ 3 ∷ 2 ∷ 2 ∷ 1 ∷ 0 ∷ 1 ∷ []
-
-unfoldable pub listed : ℕ → ℕ → Bool
-listed c n = any 8 (λ i. eqb (getD letters i 0) c && eqb (getD due i 0) n)
-
--- at most 160 characters, of which the first is a letter with its count of commas and stands alone in its field
-unfoldable pub well-parted : List ℕ → Bool
-well-parted s = leb (length s) 160 && (eqb (length (field 0 s)) 1 && listed (getD s 0 0) (commas s))
+-- a line that can't be taken apart
+abbrev pub unreadable : Event
+unreadable = Refused 6
 
 -- what follows if a field is a number; if it is pairs of hexadecimal digits
 unfoldable pub with-number : Number → (ℕ → Event) → Event
 with-number (Value n) f = f n
-with-number Invalid f = Unreadable
+with-number Invalid f = unreadable
 
 unfoldable pub with-bytes : List ℕ → (List ℕ → Event) → Event
-with-bytes s f = cond (pairs s) (f (decoded s)) Unreadable
+with-bytes s f = cond (pairs s) (f (decoded s)) unreadable
 
 abbrev pub number-at : ℕ → List ℕ → (ℕ → Event) → Event
 number-at i s f = with-number (number-of (field i s)) f
@@ -77,19 +68,25 @@ fault-of s = number-at 1 s (λ i. Make (Fault i))
 unfoldable pub allow-of : List ℕ → Event
 allow-of s = number-at 1 s (λ k. Allow k)
 
--- The letter chooses, by its code: F 70, R 82, W 87, C 67, A 65, X 88, U 85; of those in the table only Z is left.
+-- the letter chooses; of those in the table only Z is left
 unfoldable pub by-letter : ℕ → List ℕ → Event
 by-letter c s =
-    cond (eqb c 70) (format-of s)
-    (cond (eqb c 82) (read-of s)
-    (cond (eqb c 87) (write-of s)
-    (cond (eqb c 67) (start-of s)
-    (cond (eqb c 65) (acknowledge-of s)
-    (cond (eqb c 88) (fault-of s)
-    (cond (eqb c 85) (Make Power-up) (allow-of s)))))))
+    cond (eqb c format-letter) (format-of s)
+    (cond (eqb c read-letter) (read-of s)
+    (cond (eqb c write-letter) (write-of s)
+    (cond (eqb c start-letter) (start-of s)
+    (cond (eqb c acknowledge-letter) (acknowledge-of s)
+    (cond (eqb c fault-letter) (fault-of s)
+    (cond (eqb c power-up-letter) (Make Power-up) (allow-of s)))))))
 
+-- a line whose first field was read as a letter has that letter's commas
+unfoldable pub with-letter : Letter → List ℕ → Event
+with-letter (Listed c n) s = let event = by-letter c s in cond (eqb (commas s) n) event unreadable
+with-letter Unlisted s = unreadable
+
+-- a line has at most 160 characters
 unfoldable pub taken : List ℕ → Event
-taken s = let event = by-letter (getD s 0 0) s in cond (well-parted s) event Unreadable
+taken s = let event = with-letter (letter-of (field 0 s)) s in cond (leb (length s) 160) event unreadable
 
 -- what the code's answer means, with the bytes in its buffer
 unfoldable pub meant : Parsed → List ℕ → Event
@@ -101,7 +98,7 @@ meant (parsed.Acknowledge i n) b = Make (Acknowledge i (take n b))
 meant (parsed.Fault i) b = Make (Fault i)
 meant parsed.PowerUp b = Make Power-up
 meant (parsed.Allow k) b = Allow k
-meant parsed.Unreadable b = Unreadable
+meant (parsed.Refused n) b = Refused n
 
 -- how many bytes of the buffer the code's answer counts on
 unfoldable pub counted : Parsed → ℕ
@@ -113,4 +110,4 @@ counted (parsed.Acknowledge i n) = n
 counted (parsed.Fault i) = 0
 counted parsed.PowerUp = 0
 counted (parsed.Allow k) = 0
-counted parsed.Unreadable = 0
+counted (parsed.Refused n) = 0

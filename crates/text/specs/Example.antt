@@ -19,13 +19,14 @@ use Rattle.protocol.specs.Calls.{completed-first, recovering, acknowledging, pl
 use Rattle.protocol.specs.Calls.{over-port-limit, record-refused, perform, format-tests, formatting, format}
 use Rattle.text.specs.Fields.{line-feed, codes, until, past, commas, field, number-from, number-of, digit, pairs}
 use Rattle.text.specs.Fields.{decoded}
-use Rattle.text.specs.Events.{letters, due, listed, well-parted, with-number, with-bytes, format-of, read-of}
-use Rattle.text.specs.Events.{write-of}
-use Rattle.text.specs.Events.{start-of, acknowledge-of, fault-of, allow-of, by-letter, taken}
+use Rattle.text.specs.Letters.{table, looked-up, letter-of}
+use Rattle.text.specs.Events.{with-number, with-bytes, format-of, read-of, write-of, start-of, acknowledge-of}
+use Rattle.text.specs.Events.{fault-of, allow-of, by-letter, with-letter, taken}
 use Rattle.text.specs.Rows.{digit-at, decimal, hexadecimal, byte-text, bytes-text, group-text, flag-text}
 use Rattle.text.specs.Rows.{row-text, rows-text}
-use Rattle.text.specs.Turns.{ended, letter-of, play}
-use Rattle.text.specs.Whole.{grown, lines, line-text, next-run, output-from, start, output}
+use Rattle.text.specs.Turns.{ended, request-letter, play}
+use Rattle.text.specs.Whole.{grown, lines, continued, output-by, start, line-rows, line-text, next-run, line-step}
+use Rattle.text.specs.Whole.{rsmrun, output}
 
 -- lines, each ended by a line feed
 unfoldable pub text : List String → List ℕ
@@ -70,8 +71,8 @@ unfolding text input answers for span every any anyOf has mask beyond tagged-in 
     bad-decision entry-tests read-tests write-tests start-tests acknowledge-tests power-tests refusals placing
     tagging copying block-copied blocks-copied context-saved completing deciding completed-first recovering
     acknowledging plan refused decides executed record-refused perform format-tests formatting format codes
-    until past commas field number-from number-of digit pairs decoded letters due listed well-parted with-number
-    with-bytes format-of read-of write-of start-of acknowledge-of fault-of allow-of by-letter taken digit-at
-    decimal hexadecimal byte-text bytes-text group-text flag-text row-text rows-text ended letter-of play grown
-    lines line-text next-run output-from start output
+    until past commas field number-from number-of digit pairs decoded table looked-up letter-of with-number
+    with-bytes format-of read-of write-of start-of acknowledge-of fault-of allow-of by-letter with-letter taken
+    digit-at decimal hexadecimal byte-text bytes-text group-text flag-text row-text rows-text ended request-letter
+    play grown lines continued output-by start line-rows line-text next-run line-step rsmrun output
 eleven-answers = refl

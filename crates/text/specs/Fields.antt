@@ -5,8 +5,6 @@ use Prim.Native.String.{String, [] as []ˢ, _∷_ as _∷ˢ_}
 use mathlib.Core.Bool.{Bool, true, false, _&&_, cond}
 use mathlib.Core.List.{List, [], _∷_}
 use lib.Dec.{eqb, leb}
-use Rattle.text.specs.declared.Number.{Number}
-use Rattle.text.specs.declared.Number.the-variants.{Value, Invalid}
 
 -- the bytes of a quoted text of plain characters
 unfoldable pub codes : String → List ℕ
@@ -46,6 +44,11 @@ field zero s = before s
 field (suc i) s = field i (after s)
 
 -- ---- numbers: 0 to 65,535 without leading zeros
+
+-- a field read as a number
+pub data Number : Type 0 where
+  Value : ℕ → Number
+  Invalid : Number
 
 abbrev pub between : ℕ → ℕ → ℕ → Bool
 between low high c = leb low c && leb c high

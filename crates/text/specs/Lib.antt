@@ -1,4 +1,5 @@
 pub mod Fields
+pub mod Letters
 pub mod Events
 pub mod Rows
 pub mod Turns

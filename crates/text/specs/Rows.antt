@@ -3,8 +3,13 @@ use Prim.Native.Nat.{ℕ, _+_, _/_, _%_}
 use mathlib.Core.Bool.{Bool, cond}
 use mathlib.Core.List.{List, [], _∷_, _++_}
 use lib.Dec.{ltb, leb}
+use lib.ListN.{take}
 use Rattle.protocol.specs.declared.Answer.{Answer}
 use Rattle.text.specs.Fields.{comma, line-feed}
+use Rattle.text.specs.Letters.{power-up-letter}
+use Rattle.text.specs.declared.Follows.{Follows}
+use Rattle.text.specs.declared.Follows.the-variants.{Nothing, PowerUp}
+use Rattle.text.specs.declared.Rows.{Rows}
 
 -- the letter of a line, what was answered, and the bytes read
 pub record Row : Type 0 where
@@ -50,3 +55,14 @@ row-text n r =
 unfoldable pub rows-text : ℕ → List Row → List ℕ
 rows-text n [] = []
 rows-text n (r ∷ rs) = row-text n r ++ rows-text n rs
+
+-- ---- what the code's rows mean, with the bytes in its buffer
+
+unfoldable pub following : Follows → List Row
+following Nothing = []
+following (PowerUp answer) = record { letter = power-up-letter; answer = answer; bytes = [] } ∷ []
+
+unfoldable pub rows-meant : Rows → List ℕ → List Row
+rows-meant r buffer =
+    let f = r .first in
+    record { letter = f .letter; answer = f .answer; bytes = take (f .count) buffer } ∷ following (r .after)

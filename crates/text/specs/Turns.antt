@@ -11,7 +11,9 @@ use Rattle.protocol.specs.Calls.{Request, Read, Write, Start, Acknowledge, Faul
 use Rattle.protocol.specs.declared.Shape.{Shape}
 use Rattle.volatile.specs.declared.Record.{Record}
 use Rattle.protocol.specs.declared.Answer.{Answer}
-use Rattle.text.specs.Events.{Event, Format, Make, Allow, Unreadable}
+use Rattle.text.specs.Letters.{format-letter, read-letter, write-letter, start-letter, acknowledge-letter}
+use Rattle.text.specs.Letters.{fault-letter, power-up-letter, allow-letter, unknown-letter}
+use Rattle.text.specs.Events.{Event, Format, Make, Allow, Refused}
 use Rattle.text.specs.Rows.{Row}
 
 -- k is the allowance of the next line
@@ -40,37 +42,37 @@ row letter o = record { letter = letter; answer = o .reply .answer; bytes = o .b
 abbrev pub moved : Outcome → Player
 moved o = record { image = o .image; state = o .reply .next; k = uncut }
 
--- after a cut the program powers up, uncut, and prints that too, as U, code 85
+-- after a cut the program powers up, uncut, and prints that too
 unfoldable pub ended : ℕ → Outcome → Turn
 ended letter o =
     let u = perform (o .image) (o .reply .next) Power-up uncut in
     cond (eqb (o .reply .answer .status) 9)
-    (record { rows = row letter o ∷ row 85 u ∷ []; next = moved u })
+    (record { rows = row letter o ∷ row power-up-letter u ∷ []; next = moved u })
     (record { rows = row letter o ∷ []; next = moved o })
 
--- a line that makes no call: 0 for Z, 6 for one that can't be taken apart
+-- a line that makes no call: 0 for Z, the refusal for one that can't be taken apart
 abbrev pub told : ℕ → ℕ → Player → Turn
 told letter status next =
     let answer : Answer = record { status = status; decided = false; group = 0; stores = 0 } in
     record { rows = record { letter = letter; answer = answer; bytes = [] } ∷ []; next = next }
 
--- the codes of R, W, C, A, X, U
-unfoldable pub letter-of : Request → ℕ
-letter-of (Read who cell n room) = 82
-letter-of (Write who cell bytes) = 87
-letter-of (Start board context) = 67
-letter-of (Acknowledge board context) = 65
-letter-of (Fault board) = 88
-letter-of Power-up = 85
+-- the letter of a request's line
+unfoldable pub request-letter : Request → ℕ
+request-letter (Read who cell n room) = read-letter
+request-letter (Write who cell bytes) = write-letter
+request-letter (Start board context) = start-letter
+request-letter (Acknowledge board context) = acknowledge-letter
+request-letter (Fault board) = fault-letter
+request-letter Power-up = power-up-letter
 
--- An F, code 70, within the limits first makes the image that length, all zero. Z has the code 90, ? 63.
+-- an F within the limits first makes the image that length, all zero
 unfoldable pub play : Player → Event → Turn
 play p (Format s) =
     let image = cond (allowed s) (replicate (total s) 0) (p .image) in
-    ended 70 (format s image (p .state) (p .k))
-play p (Make request) = ended (letter-of request) (perform (p .image) (p .state) request (p .k))
-play p (Allow k) = told 90 0 (record { image = p .image; state = p .state; k = k })
-play p Unreadable = told 63 6 (record { image = p .image; state = p .state; k = uncut })
+    ended format-letter (format s image (p .state) (p .k))
+play p (Make request) = ended (request-letter request) (perform (p .image) (p .state) request (p .k))
+play p (Allow k) = told allow-letter 0 (record { image = p .image; state = p .state; k = k })
+play p (Refused n) = told unknown-letter n (record { image = p .image; state = p .state; k = uncut })
 
 -- With the allowance `uncut` no call is cut: no line without a Z before it, nor the power-up after a cut.
 pub record Nothing-cut : Type 0 where

@@ -1,47 +1,80 @@
--- A whole input text, and the whole output text that `rsmrun` makes of it.
+-- A whole input text, and the whole output text that a program makes of it; that of `rsmrun`.
 use Prim.Native.Nat.{ℕ, suc}
 use mathlib.Core.Bool.{cond}
 use mathlib.Core.List.{List, [], _∷_, _++_}
 use lib.Dec.{eqb, ltb}
 use Rattle.text.specs.Fields.{line-feed}
 use Rattle.text.specs.Events.{taken}
-use Rattle.text.specs.Rows.{rows-text}
+use Rattle.text.specs.Rows.{Row, rows-text}
 use Rattle.text.specs.Turns.{Player, unformatted, play}
 
+-- ---- lines
+
+abbrev pub Line : Type 0
+Line = List ℕ
+
 -- a character before the first line, or a line of its own where there is none
-unfoldable pub grown : ℕ → List (List ℕ) → List (List ℕ)
+unfoldable pub grown : ℕ → List Line → List Line
 grown c [] = (c ∷ []) ∷ []
 grown c (l ∷ ls) = (c ∷ l) ∷ ls
 
 -- lines end with a line feed or the input's end; nothing after the last line feed is no line
-unfoldable pub lines : List ℕ → List (List ℕ)
+unfoldable pub lines : List ℕ → List Line
 lines [] = []
 lines (c ∷ s) = let rest = lines s in cond (eqb c line-feed) ([] ∷ rest) (grown c rest)
+
+-- ---- programs that read lines
+
+-- what a program makes of a line: a text and its next state; or it ends before that line
+pub data Step (S : Type 0) : Type 0 where
+  Goes : List ℕ → S → Step S
+  Ends : Step S
+
+-- its step from line to line, and the text that it closes with
+pub record Program (S : Type 0) : Type 0 where
+  pub step : S → Line → Step S
+  pub close : S → List ℕ
+
+-- the text of a step and what follows it, or the closing text
+unfoldable pub continued : {S : Type 0} → Step S → List ℕ → (S → List ℕ) → List ℕ
+continued (Goes text next) closing rest = text ++ rest next
+continued Ends closing rest = closing
+
+-- the output of a program from a state on
+unfoldable pub output-by : {S : Type 0} → Program S → S → List Line → List ℕ
+output-by p s [] = p .close s
+output-by p s (l ∷ ls) = continued (p .step s l) (p .close s) (λ next. output-by p next ls)
+
+-- ---- `rsmrun`
 
 -- a run: how many lines were played, and the player
 pub record Run : Type 0 where
   pub played : ℕ
   pub player : Player
 
+unfoldable pub start : Run
+start = record { played = 0; player = unformatted }
+
 -- the lines that a run takes at most
 abbrev pub most-lines : ℕ
 most-lines = 99999
 
--- the output of one line, and the run after it
-unfoldable pub line-text : Run → List ℕ → List ℕ
-line-text r l = rows-text (suc (r .played)) (play (r .player) (taken l) .rows)
+-- the rows of one line, their text, and the run after it
+unfoldable pub line-rows : Run → Line → List Row
+line-rows r l = play (r .player) (taken l) .rows
 
-unfoldable pub next-run : Run → List ℕ → Run
+unfoldable pub line-text : Run → Line → List ℕ
+line-text r l = rows-text (suc (r .played)) (line-rows r l)
+
+unfoldable pub next-run : Run → Line → Run
 next-run r l = record { played = suc (r .played); player = play (r .player) (taken l) .next }
 
-unfoldable pub output-from : Run → List (List ℕ) → List ℕ
-output-from r [] = []
-output-from r (l ∷ ls) =
-    let rest = output-from (next-run r l) ls in
-    cond (ltb (r .played) most-lines) (line-text r l ++ rest) []
+-- it stops after the last line that a run takes, and closes with nothing
+unfoldable pub line-step : Run → Line → Step Run
+line-step r l = cond (ltb (r .played) most-lines) (Goes (line-text r l) (next-run r l)) Ends
 
-unfoldable pub start : Run
-start = record { played = 0; player = unformatted }
+unfoldable pub rsmrun : Program Run
+rsmrun = record { step = line-step; close = λ r. [] }
 
 unfoldable pub output : List ℕ → List ℕ
-output text = output-from start (lines text)
+output text = output-by rsmrun start (lines text)

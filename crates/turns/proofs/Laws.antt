@@ -2,13 +2,12 @@
 use Prim.Native.Nat.{ℕ, zero, suc, _-_, _≤_, _<_}
 use mathlib.Core.Path.{_≡_, refl, sym, _∙_, ap}
 use mathlib.Core.Bool.{true, false, cond}
-use mathlib.Core.List.{List, [], _∷_, _++_, map}
+use mathlib.Core.List.{List, [], _∷_, _++_, map, append-assoc}
 use mathlib.Core.Logic.{_≢_, ⊎-elim}
 use native.Mathlib.Omega.{arith}
-use native.Mathlib.Nat.{sub-zero}
 use lib.Dec.{eqb, ltb}
 use lib.Seq.{take-append-seam, take-at}
-use lib.ListN.{length, length-take, take, drop, set, replicate}
+use lib.ListN.{length, take, drop, set, replicate}
 use borrow.Author.Tests.{eq-eqb, eqb-true, eqb-false, le-ltb}
 use Rattle.protocol.specs.Image.{Store, view, shape-of, raw, Current}
 use Rattle.protocol.specs.Accesses.{board-of}
@@ -23,9 +22,6 @@ use Rattle.protocol.proofs.Refusals.{read-passed, entry-first}
 use Rattle.protocol.proofs.Bridge.{length-made}
 
 -- ---- parts
-
-pub take-most : (n : ℕ) (y : List ℕ) → length (take n y) ≤ n
-take-most n y = omega (arith, length-take n y)
 
 -- an image of n bytes at the area's start that became y, as the borrow checker has it
 pub lent-image : (n : ℕ) (area y : List ℕ) → length y ≡ n
@@ -163,13 +159,14 @@ module _ (image : List ℕ) (r : Record) (who : Requester) (a n room k : ℕ) wh
         (λ (e : eqb (reply .answer .status) 0 ≡ false). omega (arith, rw e at counts))
         (decide (eqb (reply .answer .status) 0))
 
-    pub bytes-answered : (buffer : List ℕ) {x : List ℕ}
+    -- whatever is behind the buffer
+    pub bytes-answered : (buffer rest : List ℕ) {x : List ℕ}
         → x ≡ filled (perform image r (Read who a n room) k .bytes) buffer →
-        take (count - 0) (drop 0 x) ≡ perform image r (Read who a n room) k .bytes
+        take count (x ++ rest) ≡ perform image r (Read who a n room) k .bytes
     unfolding filled
-    bytes-answered buffer {x} f =
+    bytes-answered buffer rest {x} f =
         let o = perform image r (Read who a n room) k in
-        rw (sub-zero, f)
+        rw (f, append-assoc)
         (⊎-elim
         (λ (e : eqb (reply .answer .status) 0 ≡ true).
         let long : count ≡ length (o .bytes) =

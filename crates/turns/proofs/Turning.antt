@@ -2,7 +2,7 @@
 use Prim.Native.Nat.{ℕ, _+_, _-_, _≤_}
 use mathlib.Core.Path.{_≡_, refl, sym, _∙_, ap, subst}
 use mathlib.Core.Bool.{cond}
-use mathlib.Core.List.{List, [], _∷_, _++_, append-nil}
+use mathlib.Core.List.{List, [], _++_}
 use mathlib.Core.Logic.{_≢_}
 use native.Mathlib.Omega.{arith}
 use native.Mathlib.Nat.{sub-zero}
@@ -18,27 +18,16 @@ use Rattle.volatile.specs.declared.Record.{Record}
 use Rattle.protocol.specs.declared.Reply.{Reply}
 use Rattle.store.specs.Promise.{Performed, Formatted, Answered}
 use Rattle.text.specs.Events.{room}
-use Rattle.text.specs.Rows.{Row, row-text, rows-text}
-use Rattle.text.specs.Turns.{row, uncut, ended}
-use Rattle.digits.specs.Append.{Appends}
-use Rattle.digits.proofs.Laws.{appends-then}
+use Rattle.text.specs.Letters.{format-letter, read-letter}
+use Rattle.text.specs.Rows.{following, rows-meant}
+use Rattle.text.specs.Turns.{uncut, ended}
+use Rattle.text.specs.declared.Row.{Row}
+use Rattle.text.specs.declared.Follows.the-variants.{Nothing, PowerUp}
 use Rattle.turns.specs.Turned.{Turns, Powered, area-size}
 use Rattle.turns.specs.declared.Turned.{Turned}
 use Rattle.protocol.proofs.Demand1.{read-stores-nothing}
 use Rattle.turns.proofs.Laws.{lent-image, outcome-of, no-bytes, perform-length, format-length, format-none}
-use Rattle.turns.proofs.Laws.{bytes-answered}
-
--- ---- rows
-
-pub one-row : (number : ℕ) (x : Row) {at : ℕ} {b y : List ℕ} {r : ℕ} → Appends (row-text number x) at b r y →
-    Appends (rows-text number (x ∷ [])) at b r y
-unfolding rows-text
-one-row number x m = rw append-nil m
-
-two-rows : (number : ℕ) (x z : Row) {at : ℕ} {b y w : List ℕ} {r e : ℕ} → Appends (row-text number x) at b r y →
-    Appends (row-text number z) r y e w → Appends (rows-text number (x ∷ z ∷ [])) at b e w
-unfolding rows-text
-two-rows number x z m n = rw append-nil (appends-then m n)
+use Rattle.turns.proofs.Laws.{few-answered, bytes-answered}
 
 -- ---- a call on the first `size` bytes of the area
 
@@ -67,92 +56,103 @@ module _ (request : Request) (k : ℕ) (state : Record) (area : List ℕ) (size 
   image-left = lent-image size area part part-size ∙ performed .image
 
   -- a turn with what the call left is the turn of its outcome
-  pub called : (letter number : ℕ) {at : ℕ} {b bytes : List ℕ} {r : Turned} {x y : List ℕ} →
+  pub called : (letter : ℕ) {bytes : List ℕ} {r : Turned} {x buffer : List ℕ} →
       bytes ≡ perform (take size area) state request k .bytes →
-      Turns (ended letter
-      (record { reply = reply; image = take size (left size area part); bytes = bytes })) number at b r x y →
-      Turns (ended letter (perform (take size area) state request k)) number at b r x y
+      Turns (ended letter (record { reply = reply; image = take size (left size area part); bytes = bytes }))
+      r x buffer →
+      Turns (ended letter (perform (take size area) state request k)) r x buffer
   unfolding o
-  called letter number {at} {b} {r} {x} {y} e t =
-      subst (λ (q : Outcome). Turns (ended letter q) number at b r x y)
+  called letter {r} {x} {buffer} e t =
+      subst (λ (q : Outcome). Turns (ended letter q) r x buffer)
       (outcome-of (perform (take size area) state request k) (performed .reply) image-left e) t
 
 -- the power-up that follows a cut
-pub powered : (state : Record) (area : List ℕ) (size number : ℕ) {at : ℕ} {b : List ℕ} {reply : Reply} {part : List ℕ}
-    {e : ℕ}
-    {y : List ℕ} → size ≤ length area → Performed Power-up uncut (lent size area) state reply part →
-    Appends (row-text number (record { letter = 85; answer = reply .answer; bytes = [] })) at b e y → e ≤ at + 160 →
-    Powered (perform (take size area) state Power-up uncut) size number at b
-    (record { next = record { length = size; state = reply .next; k = uncut }; at = e }) (left size area part) y
-unfolding plan o
-powered state area size number {reply} {part} l p m h =
+pub powered : (state : Record) (area : List ℕ) (size : ℕ) (first : Row) {reply : Reply} {part : List ℕ} →
+    size ≤ length area → Performed Power-up uncut (lent size area) state reply part →
+    Powered (perform (take size area) state Power-up uncut) size first
+    (record {
+      next = record { length = size; state = reply .next; k = uncut };
+      rows = record { first = first; after = PowerUp (reply .answer) };
+    }) (left size area part)
+unfolding o
+powered state area size first l p =
     let q = performed Power-up uncut state area size l p in
     record {
-      text = rw (sym (q .reply), sym (no-bytes (take size area) state Power-up uncut refl)) m;
-      room = h;
+      rows = rw (q .reply);
       next = rw (q .reply, image-left Power-up uncut state area size l p);
       same = refl;
     }
 
 -- ---- turns
 
+-- the row of a call, with so many bytes of the buffer, and its outcome
+abbrev first-row : ℕ → Reply → ℕ → Row
+first-row letter reply count = record { letter = letter; answer = reply .answer; count = count }
+
+abbrev outcome : Reply → List ℕ → ℕ → List ℕ → Outcome
+outcome reply image count buffer = record { reply = reply; image = image; bytes = take count buffer }
+
 -- a call that was cut
-pub cut-turn : (letter : ℕ) (o : Outcome) (number : ℕ) {at size : ℕ} {b x : List ℕ} {e : ℕ} {r : Turned}
-    {area y : List ℕ} →
-    o .reply .answer .status ≡ 9 → Appends (row-text number (row letter o)) at b e x → e ≤ at + 160 → size ≤ area-size →
-    Powered (perform (o .image) (o .reply .next) Power-up uncut) size number e x r area y →
-    Turns (ended letter o) number at b r area y
-unfolding ended
-cut-turn letter o number nine m h l p =
+pub cut-turn : (letter : ℕ) (reply : Reply) (image : List ℕ) {count size : ℕ} (buffer : List ℕ) {r : Turned}
+    {area : List ℕ} → count ≤ room → size ≤ area-size → reply .answer .status ≡ 9 →
+    Powered (perform image (reply .next) Power-up uncut) size (first-row letter reply count) r area →
+    Turns (ended letter (outcome reply image count buffer)) r area buffer
+unfolding ended rows-meant following plan
+cut-turn letter reply image buffer few l nine p =
     rw (eq-eqb _ _ nine)
     (record {
-      text = two-rows number _ _ m (p .text);
-      room = omega (arith, p .room);
+      rows = rw (p .rows, ← no-bytes image (reply .next) Power-up uncut refl);
       next = p .next;
       fits = omega (arith, p .same);
+      few = rw (p .rows) few;
     })
 
 -- a call that was not
-pub done-turn : (letter : ℕ) (o : Outcome) (number : ℕ) {at size : ℕ} {b x : List ℕ} {e : ℕ} {area : List ℕ} →
-    o .reply .answer .status ≢ 9 → Appends (row-text number (row letter o)) at b e x → e ≤ at + 160 → size ≤ area-size →
-    take size area ≡ o .image →
-    Turns (ended letter o) number at b
-    (record { next = record { length = size; state = o .reply .next; k = uncut }; at = e }) area x
-unfolding ended
-done-turn letter o number other m h l same =
-    rw (ne-eqb _ _ other)
-    (record { text = one-row number _ m; room = omega arith; next = rw same; fits = l })
+pub done-turn : (letter : ℕ) (reply : Reply) (size : ℕ) (area : List ℕ) {count : ℕ} (buffer : List ℕ) →
+    count ≤ room → size ≤ area-size → reply .answer .status ≢ 9 →
+    Turns (ended letter (outcome reply (take size area) count buffer))
+    (record {
+      next = record { length = size; state = reply .next; k = uncut };
+      rows = record { first = first-row letter reply count; after = Nothing };
+    }) area buffer
+unfolding ended rows-meant following
+done-turn letter reply size area buffer few l other =
+    rw (ne-eqb _ _ other) (record { rows = refl; next = refl; fits = l; few = few })
 
 -- ---- reads
 
--- a read, whose bytes stand at the start of its buffer
-pub read-turn : (area : List ℕ) (size : ℕ) (state : Record) (who : Requester)
-    (a n k number : ℕ) {at count : ℕ} {b buffer x : List ℕ} {reply : Reply}
-    {r : Turned} {y z : List ℕ} → Answered (Read who a n room) (lent size area) state buffer reply x →
-    count ≡ cond (eqb (reply .answer .status) 0) n 0 →
-    Turns (ended 82
-    (record { reply = reply; image = take size area; bytes = take (count - 0) (drop 0 x) })) number at b r y z →
-    Turns (ended 82 (perform (take size area) state (Read who a n room) k)) number at b r y z
-read-turn area size state who a n k number {at} {b} {buffer} {x} {reply} {r} {y} {z} m c t =
-    let image = take size area in
-    let q : Answered (Read who a n room) image state buffer reply x =
-    subst (λ (j : ℕ). Answered (Read who a n room) (take j area) state buffer reply x) (sub-zero size) m
-    in
-    subst (λ (o : Outcome). Turns (ended 82 o) number at b r y z)
-    (outcome-of (perform image state (Read who a n room) k) (q .reply k)
-    (sym (read-stores-nothing image state who a n room k))
-    (bytes-answered image state who a n room k (q .reply k) c buffer (q .buffer k))) t
+-- a read into the first bytes of a buffer
+module _ (area : List ℕ) (size : ℕ) (state : Record) (who : Requester) (a n k : ℕ) (buffer : List ℕ) {count : ℕ}
+    {x : List ℕ} {reply : Reply} (l : room ≤ length buffer)
+    (m : Answered (Read who a n (length (take room buffer))) (lent size area) state (take room buffer) reply x)
+    (c : count ≡ cond (eqb (reply .answer .status) 0) n 0) where
+  asked : Answered (Read who a n room) (take size area) state (take room buffer) reply x
+  asked = rw sub-zero at (rw length-take-le at m)
+
+  pub few-read : count ≤ room
+  few-read = few-answered (take size area) state who a n room k (asked .reply k) c
+
+  pub read-turn : {r : Turned} {y : List ℕ} →
+      let left = x ++ drop room buffer in
+      Turns (ended read-letter (outcome reply (take size area) count left)) r y left →
+      Turns (ended read-letter (perform (take size area) state (Read who a n room) k)) r y left
+  read-turn {r} {y} t =
+      let image = take size area in
+      let rest = drop room buffer in
+      subst (λ (o : Outcome). Turns (ended read-letter o) r y (x ++ rest))
+      (outcome-of (perform image state (Read who a n room) k) (asked .reply k)
+      (sym (read-stores-nothing image state who a n room k))
+      (bytes-answered image state who a n room k (asked .reply k) c (take room buffer) rest (asked .buffer k))) t
 
 -- ---- formats
 
 -- a format that left the area's first bytes, as a turn
-pub formatted : (s : Shape) (image : List ℕ) (k : ℕ) (state : Record) (number : ℕ) {at : ℕ} {b image′ : List ℕ}
-    {reply : Reply} {r : Turned}
-    {x y : List ℕ} → Formatted s image state k reply image′ →
-    Turns (ended 70 (record { reply = reply; image = image′; bytes = [] })) number at b r x y →
-    Turns (ended 70 (format s image state k)) number at b r x y
-formatted s image k state number {at} {b} {r} {x} {y} f t =
-    subst (λ (q : Outcome). Turns (ended 70 q) number at b r x y)
+pub formatted : (s : Shape) (image : List ℕ) (k : ℕ) (state : Record) {image′ : List ℕ} {reply : Reply} {r : Turned}
+    {x buffer : List ℕ} → Formatted s image state k reply image′ →
+    Turns (ended format-letter (record { reply = reply; image = image′; bytes = [] })) r x buffer →
+    Turns (ended format-letter (format s image state k)) r x buffer
+formatted s image k state {r} {x} {buffer} f t =
+    subst (λ (q : Outcome). Turns (ended format-letter q) r x buffer)
     (outcome-of (format s image state k) (f .reply) (f .image) (format-none s image state k)) t
 
 pub formatted-lent : (s : Shape) (area : List ℕ) (size k : ℕ) (state : Record) {part : List ℕ} {reply : Reply} →

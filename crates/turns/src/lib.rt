@@ -1,14 +1,16 @@
-// What a line's turn ends with: its rows, the power-up after a cut, and what stands between two lines.
-use printing::put_row;
+// How a line's turn ends: its rows, the power-up after a cut, and what stands between two lines.
 use protocol::Answer;
 use protocol::Reply;
 use recovery::power_up;
 use store::answers::CUT;
+use text::Follows;
+use text::Row;
+use text::Rows;
 use volatile::Record;
 ghost use mathlib.Core.Path.{_≡_};
 ghost use mathlib.Core.Bool.{cond};
 ghost use mathlib.Core.List.{List};
-ghost use Prim.Native.Nat.{ℕ, _+_, _≤_};
+ghost use Prim.Native.Nat.{ℕ, _≤_};
 ghost use lib.Dec.{eqb};
 ghost use lib.ListN.{length, take};
 ghost use Rattle.volatile.specs.declared.Record.{Record as State};
@@ -26,83 +28,63 @@ pub struct Session {
     pub k: usize,
 }
 
-// The next session, and where the output goes on.
+// The next session, and the rows of the line.
 pub struct Turned {
     pub next: Session,
-    pub at: usize,
+    pub rows: Rows,
 }
 
-// The image is powered up, uncut, and that row is written.
-fn power_turn(
-    area: &mut [u8],
-    size: usize,
-    none: &[u8],
-    number: usize,
-    out: &mut [u8],
-    at: usize,
-) -> Turned
-    requires { ⌜ (size ≤ length (now area)) × (at + 160 ≤ length (now out)) ⌝ }
+// The image is powered up, uncut; that row follows the first.
+fn power_turn(area: &mut [u8], size: usize, first: Row) -> Turned
+    requires { ⌜ size ≤ length (now area) ⌝ }
     ensures { λ r. ⌜ ((state : State) → Powered (perform (take size (now (area .entry))) state Power-up uncut)
-        size number at (now (out .entry)) r (now (area .exit)) (now (out .exit))) ⌝ }
+        size first r (now (area .exit))) ⌝ }
 {
     let up = power_up(&mut area[0..size], UNCUT);
     let answer = up.answer;
     let state = up.next;
-    let end = put_row(out, at, number, b'U', answer, &none[0..0]);
     let next = Session {
         length: size,
         state,
         k: UNCUT,
     };
-    Turned { next, at: end }
+    let after = Follows::PowerUp(answer);
+    let rows = Rows { first, after };
+    Turned { next, rows }
 }
 
-// A call's row; after a cut the power-up follows.
-pub fn end_turn(
-    area: &mut [u8],
-    size: usize,
-    reply: Reply,
-    letter: u8,
-    bytes: &[u8],
-    number: usize,
-    out: &mut [u8],
-    at: usize,
-) -> Turned
-    requires { ⌜ (size ≤ 35852) × (35852 ≤ length (now area)) × (length (now bytes) ≤ 64)
-        × (at + 320 ≤ length (now out)) ⌝ }
-    ensures { λ r. ⌜ Turns
-        (ended letter (record { reply = reply; image = take size (now (area .entry)); bytes = now (bytes .entry) }))
-        number at (now (out .entry)) r (now (area .exit)) (now (out .exit)) ⌝ }
+// A call's row, with the first `count` bytes of a buffer; after a cut the power-up follows.
+pub fn end_turn(area: &mut [u8], size: usize, reply: Reply, letter: u8, count: usize) -> Turned
+    requires { ⌜ (size ≤ 35852) × (35852 ≤ length (now area)) × (count ≤ 64) ⌝ }
+    ensures { λ r. ⌜ ((buffer : List ℕ) → Turns
+        (ended letter (record { reply = reply; image = take size (now (area .entry)); bytes = take count buffer }))
+        r (now (area .exit)) buffer) ⌝ }
 {
     let answer = reply.answer;
     let state = reply.next;
-    let end = put_row(out, at, number, letter, answer, bytes);
+    let first = Row {
+        letter,
+        answer,
+        count,
+    };
     if answer.status == CUT {
-        return power_turn(area, size, bytes, number, out, end);
+        return power_turn(area, size, first);
     }
     let next = Session {
         length: size,
         state,
         k: UNCUT,
     };
-    Turned { next, at: end }
+    let after = Follows::Nothing;
+    let rows = Rows { first, after };
+    Turned { next, rows }
 }
 
 // The row of a line that makes no call; k is the allowance of the next line.
-pub fn tell(
-    p: Session,
-    letter: u8,
-    status: u8,
-    k: usize,
-    none: &[u8],
-    number: usize,
-    out: &mut [u8],
-    at: usize,
-) -> Turned
-    requires { ⌜ (p .length ≤ 35852) × (at + 320 ≤ length (now out)) ⌝ }
-    ensures { λ r. ⌜ ((area : List ℕ) →
-        Turns (told letter status (record { image = take (p .length) area; state = p .state; k = k })) number at
-        (now (out .entry)) r area (now (out .exit))) ⌝ }
+pub fn tell(p: Session, letter: u8, status: u8, k: usize) -> Turned
+    requires { ⌜ p .length ≤ 35852 ⌝ }
+    ensures { λ r. ⌜ ((area : List ℕ) (buffer : List ℕ) → Turns
+        (told letter status (record { image = take (p .length) area; state = p .state; k = k })) r area buffer) ⌝ }
 {
     let answer = Answer {
         status,
@@ -110,14 +92,20 @@ pub fn tell(
         group: 0,
         stores: 0,
     };
-    let end = put_row(out, at, number, letter, answer, &none[0..0]);
+    let first = Row {
+        letter,
+        answer,
+        count: 0,
+    };
+    let after = Follows::Nothing;
+    let rows = Rows { first, after };
     let state = p.state;
     let next = Session {
         length: p.length,
         state,
         k,
     };
-    Turned { next, at: end }
+    Turned { next, rows }
 }
 
 // The bytes that a read answered: all or none.

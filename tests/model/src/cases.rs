@@ -4,6 +4,7 @@
 //! Req 01, 02 and 03 of document 02.
 
 use crate::forecast::{self, Forecast};
+use crate::lines;
 use crate::module::{self, Answer, Record, Requester, CUT, DONE, UNCUT};
 use std::fmt::Write;
 
@@ -12,13 +13,12 @@ const ROOM: usize = 36_000;
 /// The length of the longest answer buffer, and what it is filled with.
 const BUFFER: usize = 80;
 const FILL: u8 = 238;
-/// The largest number of a request.
-const LARGEST: usize = 999_999;
 /// The board's place among the numbers.
 const BOARD: usize = 1;
 
-/// A letter and six numbers, 0 where the line has fewer. In an access the
-/// word `port` may stand for the board, the second number.
+/// A letter and six numbers, 0 where the line has fewer, parted by commas. A
+/// number is one of event lines. In an access the word `port` may stand for
+/// the board, the second number.
 struct Request {
     letter: u8,
     numbers: [usize; 6],
@@ -27,19 +27,19 @@ struct Request {
 
 impl Request {
     fn of(line: &str) -> Option<Request> {
-        let mut words = line.split(' ');
-        let &[letter] = words.next()?.as_bytes() else {
+        let mut fields = line.split(',');
+        let &[letter] = fields.next()?.as_bytes() else {
             return None;
         };
         let mut numbers = [0; 6];
         let mut port = false;
-        for (i, word) in words.enumerate() {
-            if word == "port" && i == BOARD && b"RWw".contains(&letter) {
+        for (i, field) in fields.enumerate() {
+            if field == "port" && i == BOARD && b"RWw".contains(&letter) {
                 port = true;
                 continue;
             }
-            let number = word.parse().ok().filter(|number| *number <= LARGEST)?;
-            *numbers.get_mut(i)? = number;
+            let number = lines::number(field.as_bytes())?;
+            *numbers.get_mut(i)? = number.into();
         }
         Some(Request {
             letter,

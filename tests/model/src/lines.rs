@@ -96,7 +96,7 @@ pub fn parse<'a>(line: &[u8], room: &'a mut Room) -> Option<Event<'a>> {
 }
 
 /// 0 to 65,535 without leading zeros.
-fn number(field: &[u8]) -> Option<u16> {
+pub fn number(field: &[u8]) -> Option<u16> {
     if field.is_empty() || field.len() > 5 || (field.len() > 1 && field[0] == b'0') {
         return None;
     }

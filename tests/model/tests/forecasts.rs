@@ -82,14 +82,14 @@ fn refusals() {
 /// The requests E and G of `cases`.
 #[test]
 fn requests() {
-    let requests = "F 99 16 1 1 2 79\nW 9 15 0 1 7\nE 0 15\nG 0 15\nE 0 16\nG 0 999999\n";
+    let requests = "F,99,16,1,1,2,79\nW,9,15,0,1,7\nE,0,15\nG,0,15\nE,0,16\nG,0,65535\n";
     let made = cases::answers(requests).unwrap();
     let forecasts: Vec<&str> = made.lines().skip(2).collect();
     let expected = [
-        "E 0 15 : 0 8000 10",
-        "G 0 15 : 0 8000 2",
-        "E 0 16 : 1 0000 0",
-        "G 0 999999 : 1 0000 0",
+        "E,0,15 : 0 8000 10",
+        "G,0,15 : 0 8000 2",
+        "E,0,16 : 1 0000 0",
+        "G,0,65535 : 1 0000 0",
     ];
     assert_eq!(forecasts, expected);
 }

@@ -62,20 +62,20 @@ fn replay_files() {
 #[test]
 fn requests_of_cases() {
     let requests =
-        "F 99 1 1 1 0 15\nW 9 0 0 1 7\nI 1\nx 0 0\nI 0\nx 0 0\nf 0 1 1 1 0 15\nD 0\nL 2\nD 0\n";
-    let answers = "F 99 1 1 1 0 15 : 0 0 0000 16 image changed, record changed, buffer same
-W 9 0 0 1 7 : 0 0 0000 2 image changed, record same, buffer same
-I 1
-x 0 0
+        "F,99,1,1,1,0,15\nW,9,0,0,1,7\nI,1\nx,0,0\nI,0\nx,0,0\nf,0,1,1,1,0,15\nD,0\nL,2\nD,0\n";
+    let answers = "F,99,1,1,1,0,15 : 0 0 0000 16 image changed, record changed, buffer same
+W,9,0,0,1,7 : 0 0 0000 2 image changed, record same, buffer same
+I,1
+x,0,0
  : 9 0 0000 0, powered up: before 3, after 0, neither 0, image 52534d310100010000000000010700
  : 9 0 0000 1, powered up: before 3, after 0, neither 0, image 52534d310100010000000000010000
  : 0 0 0001 2, powered up: before 1, after 0, neither 0, image 52534d310100010000000000000000
-I 0
-x 0 0
+I,0
+x,0,0
  : 9 0 0000 0, powered up: before 3, after 0, neither 0
  : 9 0 0000 1, powered up: before 3, after 0, neither 0
  : 0 0 0001 2, powered up: before 1, after 0, neither 0
-f 0 1 1 1 0 15
+f,0,1,1,1,0,15
  : 9 0 0000 0, powered up: before 3, after 0, neither 0
 ";
     let made = cases::answers(requests).unwrap();
@@ -85,12 +85,14 @@ f 0 1 1 1 0 15
     assert_eq!(made.matches(cut).count(), 15);
     let end = "
  : 0 0 0000 16, powered up: before 1, after 0, neither 0
-D 0 : 52534d310100010000000000010700
-L 2
-D 0 : 5253
+D,0 : 52534d310100010000000000010700
+L,2
+D,0 : 5253
 ";
     assert!(made.ends_with(end), "{made}");
-    for wrong in ["B 0", "W0", "W 0  1", "W 0 x", "W 1000000", "Q 20 1"] {
+    for wrong in [
+        "B,0", "W0", "W 0", "W,0,,1", "W,0,", "W,0,x", "W,0,01", "W,65536", "Q,20,1",
+    ] {
         assert!(cases::answers(wrong).is_err(), "{wrong}");
     }
 }

@@ -1,41 +1,29 @@
--- `put_group` meets its contract: the high byte, then the low one.
-use mathlib.Core.Path.{_∙_}
+-- `put_group` meets its contract.
 use borrow.Author.Needs.{needs}
-use native.Mathlib.Omega.{arith}
-use Rattle.text.specs.Rows.{byte-text, group-text}
-use Rattle.digits.proofs.Laws.{appends-then}
 use Rattle.digits.proofs.put_group.Statement.{statement}
 use Rattle.digits.proofs.put_group.Tie as tie
 
-cast-high : tie.Need-cast-high
-cast-high c = omega arith
-
-cast-low : tie.Need-cast-low
-cast-low c = omega arith
-
-put-byte-requires : tie.Need-put-byte-requires
-put-byte-requires c κs = search needs
-
-put-byte-requires-2 : tie.Need-put-byte-requires-2
-unfolding byte-text
-put-byte-requires-2 c κs = omega arith
+put-zeros-requires : tie.Need-put-zeros-requires
+put-zeros-requires c κs = search needs
 
 same-length : tie.Need-same-length
-same-length c = c .before .out2 .given ∙ c .before .before .before .before .before .out .given
+same-length c = search needs
 
 returns : tie.Need-returns
-unfolding group-text
 returns c =
-    let low = c .before .before in
-    appends-then (low .before .before .before .before .put-byte .ensures) (low .put-byte2 .ensures)
+    let stored = c .before .before in
+    rw (stored .before .before .if1 .taken) (stored .put-zeros .ensures)
+
+put-two-requires : tie.Need-put-two-requires
+put-two-requires c κs = search needs
+
+same-length-2 : tie.Need-same-length-2
+same-length-2 c = search needs
+
+returns-2 : tie.Need-returns-2
+returns-2 c = search needs
 
 pub put-group-spec : {M : Type 1} → statement M
 put-group-spec =
     tie.close
-    (tie.spec
-    cast-high
-    cast-low
-    put-byte-requires
-    put-byte-requires-2
-    same-length
-    returns)
+    (tie.spec put-zeros-requires same-length returns put-two-requires same-length-2 returns-2)

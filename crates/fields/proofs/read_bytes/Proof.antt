@@ -13,7 +13,7 @@ pairs-requires c κs = tt
 returns : tie.Need-returns
 returns c =
     let other = sym (c .before .pairs .ensures) ∙ not-true _ (c .if1 .taken) in
-    (sym (if-false _ _ other), sym (if-false _ _ other))
+    record { tells = sym (if-false _ _ other); puts = sym (if-false _ _ other) }
 
 decode-requires : tie.Need-decode-requires
 decode-requires c κs =
@@ -26,10 +26,11 @@ same-length c = search needs
 returns-2 : tie.Need-returns-2
 returns-2 c =
     let asked = c .before .before .before .before .before in
-    let fits = sym (asked .pairs .ensures) ∙ not-false _ (c .before .before .before .before .if1 .left) in (
-      ap Count (sym (length-decoded _)) ∙ sym (if-true _ _ fits),
-      c .before .before .decode .ensures ∙ sym (if-true _ _ fits),
-    )
+    let fits = sym (asked .pairs .ensures) ∙ not-false _ (c .before .before .before .before .if1 .left) in
+    record {
+      tells = ap Count (sym (length-decoded _)) ∙ sym (if-true _ _ fits);
+      puts = c .before .before .decode .ensures ∙ sym (if-true _ _ fits);
+    }
 
 pub read-bytes-spec : {M : Type 1} → statement M
 read-bytes-spec = tie.close (tie.spec pairs-requires returns decode-requires same-length returns-2)

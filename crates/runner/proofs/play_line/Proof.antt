@@ -1,51 +1,32 @@
 -- `play_line` meets its contract: the line is taken apart and played.
-use denote.Ref.{now}
-use Rattle.runner.proofs.Pieces.{stepped}
-use native.Mathlib.Omega.{arith}
+use borrow.Author.Needs.{needs}
+use Rattle.runner.proofs.OneLine.{played}
 use Rattle.runner.proofs.play_line.Statement.{statement}
 use Rattle.runner.proofs.play_line.Tie as tie
 
 take-apart-requires : tie.Need-take-apart-requires
-take-apart-requires c κs = c .before .before .before .before .before .pre .2
-
-add-number : tie.Need-add-number
-add-number c = omega arith
+take-apart-requires c κs = search needs
 
 play-requires : tie.Need-play-requires
-play-requires c κs =
-    let known = c .before .before .before .before .before .before in
-    let taken = known .before in
-    let start = taken .before .before .before .before .before .before in (
-      record { room = start .pre .0 .room; fits = start .pre .0 .fits; line = start .pre .3 },
-      omega (arith, taken .take-apart .ensures .1, start .pre .2, known .buffer .given),
-    )
+play-requires c κs = search needs
+
+add-t17 : tie.Need-add-t17
+add-t17 c = search needs
 
 same-length : tie.Need-same-length
-same-length c = c .before .before .before .before .area .given
+same-length c = search needs
 
 same-length-2 : tie.Need-same-length-2
-same-length-2 c =
-    let played = c .before .before .before .before .before .before in
-    played .before .before .before .before .before .before .buffer .given
-
-same-length-3 : tie.Need-same-length-3
-same-length-3 c = c .before .before .out .given
+same-length-2 c = search needs
 
 returns : tie.Need-returns
 returns c =
-    let played = c .before .before .before .before .before in
-    let taken = played .before .before .before .before .before .before .before .before in
-    let args = taken .before .before .before .before .before .before .args in
-    stepped (args .run) (args .area .now) (now (args .line)) _ (taken .take-apart .ensures .0) (played .play .ensures)
+    let turned = c .before .before .before .before .before .before .before in
+    let taken = turned .before .before .before .before .before .before in
+    let args = taken .before .before .before .before .before .args in
+    played (args .run) (args .area .now) (args .line .now) (taken .take-apart .ensures .0) (turned .play .ensures)
 
 pub play-line-spec : {M : Type 1} → statement M
 play-line-spec =
     tie.close
-    (tie.spec
-    take-apart-requires
-    add-number
-    play-requires
-    same-length
-    same-length-2
-    same-length-3
-    returns)
+    (tie.spec take-apart-requires play-requires add-t17 same-length same-length-2 returns)

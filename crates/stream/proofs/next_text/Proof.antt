@@ -1,7 +1,7 @@
 -- `next_text` meets its contract, case by case.
 use mathlib.Core.Path.{refl}
 use native.Mathlib.Omega.{arith}
-use Rattle.feeder.proofs.Pieces.{kept-line}
+use Rattle.pieces.proofs.Pieces.{kept-line}
 use Rattle.stream.proofs.Texts.{same-end, no-end, held-full, held-limit, over-unbroken}
 use Rattle.stream.proofs.next_text.Statement.{statement}
 use Rattle.stream.proofs.next_text.Tie as tie

@@ -5,8 +5,8 @@ use native.Mathlib.Omega.{arith}
 use native.Mathlib.Nat.{sub-zero}
 use lib.ListN.{length}
 use Rattle.turns.specs.Turned.{area-size}
-use Rattle.feeder.specs.Feeding.{Kept}
-use Rattle.feeder.proofs.Pieces.{kept-first, kept-within}
+use Rattle.pieces.specs.Pieces.{Kept}
+use Rattle.pieces.proofs.Pieces.{kept-first, kept-within}
 use Rattle.stream.proofs.play.Statement.{statement}
 use Rattle.stream.proofs.play.Tie as tie
 
@@ -54,7 +54,7 @@ close-requires c κs =
     let at = told .before .before .before in
     let start = at .before .before .before .before .before in (
       rw sub-zero (told .next-text .ensures .over),
-      record { room = omega (arith, start .pre .2, at .loop .inv .1); fits = at .loop .inv .4 },
+      record { whole = omega (arith, start .pre .2, at .loop .inv .1); fits = at .loop .inv .4 },
       omega (arith, start .pre .3, at .loop .inv .2),
     )
 
@@ -85,7 +85,7 @@ feed-requires c κs =
     let at = told .before .before .before in
     let start = at .before .before .before .before .before in (
       told .next-text .ensures .within _ (got .got .given .1),
-      record { room = omega (arith, start .pre .2, at .loop .inv .1); fits = at .loop .inv .4 },
+      record { whole = omega (arith, start .pre .2, at .loop .inv .1); fits = at .loop .inv .4 },
     )
 
 sub-write-all : tie.Need-sub-write-all Inv-loop μ-loop
