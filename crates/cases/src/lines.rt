@@ -1,9 +1,4 @@
 // Plays one line.
-use crate::area::BEFORE;
-use crate::area::OTHER;
-use crate::area::PART;
-use crate::area::copy;
-use crate::cuts::every_cut;
 use bench::calls::call;
 use bench::letters;
 use bench::records::changed;
@@ -11,6 +6,11 @@ use bench::requests::Request;
 use bench::requests::at_most;
 use bench::requests::request_of;
 use bench::tell;
+use cuts::area::BEFORE;
+use cuts::area::OTHER;
+use cuts::area::PART;
+use cuts::area::copy;
+use cuts::every::every_cut;
 use text::ACKNOWLEDGE;
 use text::FAULT;
 use text::FORMAT;

@@ -25,8 +25,6 @@
 //   L,length                the image lent from now on has that length
 //   P,at,byte               that byte of the image becomes this
 //   Q,place,number          0 to 15: that row of the record; 16 on, 17 starter, 18 members, 19 acknowledged
-mod area;
-mod cuts;
 mod lines;
 
 use fields::find;

@@ -20,12 +20,13 @@ use Rattle.text.specs.declared.Letter.{Letter}
 use Rattle.text.specs.declared.Letter.the-variants.{Listed}
 use Rattle.text.specs.declared.Bytes.{Bytes}
 use Rattle.text.specs.declared.Bytes.the-variants.{Count, Malformed}
-use Rattle.fields.specs.Numbers.{from-field, Numbered, Bytes-read, values-of}
+use Rattle.fields.specs.Numbers.{from-field, Numbered, values-of}
 use Rattle.fields.specs.declared.Values.{Values}
 use Rattle.fields.specs.declared.Numbers.{Numbers}
 use Rattle.fields.specs.declared.Numbers.the-variants.{All, Refused}
-use Rattle.fields.proofs.Laws.{length-decoded, field-from, behind, ends-last, ends-more}
-use Rattle.fields.proofs.Laws.{pairs-commas, before-all}
+use Rattle.fields.proofs.Laws.{field-from, behind, ends-last, ends-more, before-all}
+use Rattle.bytes.specs.Reading.{Bytes-read}
+use Rattle.bytes.proofs.Laws.{length-decoded, pairs-commas}
 use Rattle.events.specs.Made.{bytes-last, of-numbers, of-bytes}
 
 -- ---- numbers in a row

@@ -1,8 +1,8 @@
 // A line of events taken apart: its letter, the numbers behind it, and the bytes that the lines of some letters end in.
+use bytes::read_bytes;
 use fields::Numbers;
 use fields::Values;
 use fields::first_letter;
-use fields::read_bytes;
 use fields::read_numbers;
 use protocol::Shape;
 use text::ACKNOWLEDGE;

@@ -1,20 +1,19 @@
 -- Laws of fields: what stands at a place of a text, and from there on.
-use Prim.Native.Nat.{ℕ, zero, suc, _+_, _-_, _*_, _/_, _≤_, _<_}
+use Prim.Native.Nat.{ℕ, zero, suc, _+_, _-_, _*_, _≤_, _<_}
 use mathlib.Core.Path.{_≡_, refl, sym, _∙_, ap}
-use mathlib.Core.Bool.{Bool, true, false, _&&_, cond, false≢true}
+use mathlib.Core.Bool.{Bool, true, false, _&&_, cond}
 use mathlib.Core.List.{List, [], _∷_}
-use lib.Dec.{eqb, leb, eqb·suc-suc}
-use lib.ListN.{length, getD, take, drop, set, length-take, length-drop, drop-of-length-le}
-use lib.Seq.{drop-cons, drop-drop, getD-drop, getD-take, take-suc, set-at, append-snoc, length-take-le, take-all}
-use lib.Seq.{take-length}
+use lib.Dec.{eqb, leb}
+use lib.ListN.{length, getD, take, drop, length-take, length-drop, drop-of-length-le}
+use lib.Seq.{drop-cons, drop-drop, getD-drop, getD-take, take-all}
 use native.Mathlib.Omega.{arith}
 use native.Mathlib.Numerals.{add-one}
-use borrow.Author.Tests.{eq-eqb, ne-eqb, le-leb, lt-leb, leb-true, eqb-true}
-use Rattle.protocol.specs.Calls.{filled}
-use Rattle.boards.proofs.Basics.{and-true, and-false, if-true, if-false, refute}
+use borrow.Author.Tests.{eq-eqb, ne-eqb, le-leb, leb-true, eqb-true}
+use Rattle.boards.proofs.Basics.{and-true, if-true, if-false, refute}
 use Rattle.text.specs.Fields.{comma, until, past, field, before, after, commas, Number, Value, Invalid, number-from}
-use Rattle.text.specs.Fields.{number-of, between, digit, pairs, decoded}
+use Rattle.text.specs.Fields.{number-of, between}
 use Rattle.text.specs.Letters.{table, looked-up, letter-of}
+use Rattle.text.proofs.Places.{from}
 use Rattle.text.specs.declared.Listing.{Listing}
 use Rattle.text.specs.declared.Letter.the-variants.{Listed, Unlisted}
 use Rattle.fields.specs.Numbers.{measured, from-field, Field-ends}
@@ -24,27 +23,24 @@ use Rattle.fields.specs.declared.Field.the-variants as read
 -- ---- the text from a place on
 
 module _ (s : List ℕ) (i : ℕ) (l : i < length s) where
-  from : drop i s ≡ getD s i 0 ∷ drop (i + 1) s
-  from = rw add-one (drop-cons s i 0 l)
-
   pub until-stop : (d : ℕ) → getD s i 0 ≡ d → length (until d (drop i s)) ≡ 0
   unfolding until
-  until-stop d e = rw (from, eq-eqb _ _ e)
+  until-stop d e = rw (from s i l, eq-eqb _ _ e)
 
   pub until-more : (d : ℕ) → (getD s i 0 ≡ d → ⊥)
       → length (until d (drop i s)) ≡ suc (length (until d (drop (i + 1) s)))
   unfolding until
-  until-more d e = rw (from, ne-eqb _ _ e)
+  until-more d e = rw (from s i l, ne-eqb _ _ e)
 
   commas-comma : getD s i 0 ≡ comma → commas (drop i s) ≡ suc (commas (drop (i + 1) s))
   unfolding commas
-  commas-comma e = rw (from, eq-eqb _ _ e)
+  commas-comma e = rw (from s i l, eq-eqb _ _ e)
 
   -- a digit that goes on with the number v, and a character that stops it
   module _ (v : ℕ) (other : getD s i 0 ≡ comma → ⊥) where
     next : before (drop i s) ≡ getD s i 0 ∷ before (drop (i + 1) s)
     unfolding until
-    next = rw (from, ne-eqb _ _ other)
+    next = rw (from s i l, ne-eqb _ _ other)
 
     pub number-more : 48 ≤ getD s i 0 → getD s i 0 ≤ 57 → 10 * v + (getD s i 0 - 48) ≤ 65535
         → number-from v (before (drop i s)) ≡ number-from (10 * v + (getD s i 0 - 48)) (before (drop (i + 1) s))
@@ -321,57 +317,6 @@ four (a ∷ b ∷ c ∷ []) e = absurd (omega arith)
 four (a ∷ b ∷ c ∷ d ∷ []) e = refl
 four (a ∷ b ∷ c ∷ d ∷ x ∷ l) e = absurd (omega arith)
 
--- ---- pairs of digits
-
-module _ (s : List ℕ) (i : ℕ) (l : i + 1 < length s) where
-  step : pairs (drop i s) ≡ leb (digit (getD s i 0)) 15 && (leb (digit (getD s (i + 1) 0)) 15 && pairs (drop (i + 2) s))
-  unfolding pairs
-  step =
-      let next : i + 1 + 1 ≡ i + 2 = omega arith in
-      rw (from s i (omega arith), from s (i + 1) l, next)
-
-  pub pairs-high : 15 < digit (getD s i 0) → pairs (drop i s) ≡ false
-  pairs-high h = step ∙ rw (lt-leb (digit (getD s i 0)) 15 h)
-
-  pub pairs-low : 15 < digit (getD s (i + 1) 0) → pairs (drop i s) ≡ false
-  pairs-low h = step ∙ and-false (leb (digit (getD s i 0)) 15) (rw (lt-leb (digit (getD s (i + 1) 0)) 15 h))
-
-  pub pairs-more : digit (getD s i 0) ≤ 15 → digit (getD s (i + 1) 0) ≤ 15 → pairs (drop i s) ≡ pairs (drop (i + 2) s)
-  pairs-more h k = step ∙ rw (le-leb (digit (getD s i 0)) 15 h, le-leb (digit (getD s (i + 1) 0)) 15 k)
-
-pub pairs-end : (s : List ℕ) (i : ℕ) → i ≤ length s → length s ≤ i + 1 → pairs (drop i s) ≡ eqb i (length s)
-unfolding pairs
-pairs-end [] zero a b = refl
-pairs-end (x ∷ []) zero a b = refl
-pairs-end (x ∷ y ∷ s) zero a b = absurd (omega arith)
-pairs-end [] (suc i) a b = absurd (omega arith)
-pairs-end (x ∷ s) (suc i) a b = pairs-end s i (omega arith) (omega arith) ∙ sym (eqb·suc-suc i (length s))
-
--- a pair of digits is the byte
-abbrev Pair : ℕ → ℕ → ℕ → Type 0
-Pair h l b = (digit h ≤ 15) × (digit l ≤ 15) × (b ≡ 16 * digit h + digit l)
-
-both : (x y : ℕ) (s : List ℕ) → pairs (x ∷ y ∷ s) ≡ true → (digit x ≤ 15) × (digit y ≤ 15) × (pairs s ≡ true)
-unfolding pairs
-both x y s p =
-    let rest = leb (digit y) 15 && pairs s in
-    let high = and-true (leb (digit x) 15) rest p in
-    let low = and-true (leb (digit y) 15) (pairs s) (high .1) in
-    (leb-true _ _ (high .0), leb-true _ _ (low .0), low .1)
-
--- pairs of digits have no comma, and what has none is one field
-no-comma : (c : ℕ) → digit c ≤ 15 → eqb c comma ≡ false
-unfolding digit
-no-comma c l = ne-eqb c comma (λ e. let no : digit comma ≤ 15 = rw e at l in omega arith)
-
-pub pairs-commas : (s : List ℕ) → pairs s ≡ true → commas s ≡ 0
-unfolding pairs commas
-pairs-commas [] p = refl
-pairs-commas (x ∷ []) p = absurd (false≢true p)
-pairs-commas (x ∷ y ∷ s) p =
-    let first = both x y s p in
-    rw (no-comma x (first .0), no-comma y (first .1)) (pairs-commas s (first .2))
-
 pub before-all : (s : List ℕ) → commas s ≡ 0 → before s ≡ s
 unfolding commas until
 before-all [] e = refl
@@ -381,40 +326,3 @@ before-all (c ∷ s) e = go (eqb c comma) e (before-all s)
         → cond b [] (c ∷ before s) ≡ c ∷ s
     go true e h = absurd (omega arith)
     go false e h = ap (λ t. c ∷ t) (h e)
-
-pub pair-at : (s : List ℕ) (i : ℕ) → pairs s ≡ true → 2 * i + 1 < length s
-    → Pair (getD s (2 * i) 0) (getD s (2 * i + 1) 0) (getD (decoded s) i 0)
-unfolding decoded
-pair-at [] i p l = absurd (omega arith)
-pair-at (x ∷ []) i p l = absurd (omega arith)
-pair-at (x ∷ y ∷ s) zero p l = let first = both x y s p in (first .0, first .1, refl)
-pair-at (x ∷ y ∷ s) (suc i) p l =
-    let odd : 2 * suc i + 1 ≡ suc (suc (2 * i + 1)) = omega arith in
-    let even : 2 * suc i ≡ suc (suc (2 * i)) = omega arith in
-    rw (odd, even) (pair-at s i (both x y s p .2) (omega arith))
-
-pub length-decoded : (s : List ℕ) → length (decoded s) ≡ length s / 2
-unfolding decoded
-length-decoded [] = refl
-length-decoded (x ∷ []) = refl
-length-decoded (x ∷ y ∷ s) = ap suc (length-decoded s) ∙ omega arith
-
--- ---- a buffer filled byte by byte
-
-module _ (bytes buffer : List ℕ) where
-  pub filled-none : buffer ≡ filled (take 0 bytes) buffer
-  unfolding filled
-  filled-none = refl
-
-  pub filled-all : filled (take (length bytes) bytes) buffer ≡ filled bytes buffer
-  filled-all = rw take-length
-
-  pub filled-more : {out : List ℕ} {v : ℕ} (i : ℕ) → i < length bytes → i < length buffer
-      → out ≡ filled (take i bytes) buffer → v ≡ getD bytes i 0 → set out i v ≡ filled (take (i + 1) bytes) buffer
-  unfolding filled
-  filled-more i l m p q =
-      let front : length (take i bytes) ≡ i = length-take-le i bytes (omega arith) in
-      let longer : length (take (i + 1) bytes) ≡ i + 1 = length-take-le (i + 1) bytes (omega arith) in
-      rw (p, q, front, longer, add-one, drop-cons buffer i 0 m, take-suc bytes i 0 l)
-      (set-at (take i bytes) (getD buffer i 0) (drop (suc i) buffer) (getD bytes i 0) i front
-      ∙ sym (append-snoc (take i bytes) (getD bytes i 0) (drop (suc i) buffer)))

@@ -1,13 +1,9 @@
--- What reading the numbers of a line, and the bytes of a field, promises.
+-- What reading the numbers of a line promises.
 use Prim.Native.Nat.{ℕ, zero, suc, _+_, _≤_, _<_}
 use mathlib.Core.Path.{_≡_}
-use mathlib.Core.Bool.{cond}
 use mathlib.Core.List.{List, [], _∷_}
 use lib.ListN.{length, getD, drop}
-use Rattle.protocol.specs.Calls.{filled}
-use Rattle.text.specs.Fields.{comma, after, field, commas, Number, Value, Invalid, number-of, pairs, decoded}
-use Rattle.text.specs.declared.Bytes.{Bytes}
-use Rattle.text.specs.declared.Bytes.the-variants.{Count, Malformed}
+use Rattle.text.specs.Fields.{comma, after, field, commas, Number, Value, Invalid, number-of}
 use Rattle.fields.specs.declared.Field.{Field}
 use Rattle.fields.specs.declared.Field.the-variants as read
 use Rattle.fields.specs.declared.Values.{Values}
@@ -39,8 +35,3 @@ abbrev pub Numbered : List ℕ → ℕ → Numbers → Type 0
 Numbered s due (All v) =
     Field-ends s due (v .end) × ((j : ℕ) → j < due → number-of (field (suc j) s) ≡ Value (getD (values-of v) j 0))
 Numbered s due (Refused n) = (n ≡ 6) × ((j : ℕ) × (j < due) × (number-of (field (suc j) s) ≡ Invalid))
-
--- a field of pairs of digits is told by its count of bytes, which stand at the start of the buffer; any other leaves it
-pub record Bytes-read (s buffer : List ℕ) (r : Bytes) (after : List ℕ) : Type 0 where
-  pub tells : r ≡ cond (pairs s) (Count (length (decoded s))) Malformed
-  pub puts : after ≡ cond (pairs s) (filled (decoded s) buffer) buffer

@@ -1,9 +1,18 @@
-// An input that is read piece by piece: where its next line ends, and what is kept of a piece.
+// An input that is read piece by piece: what an answer of the system means, where the next line ends, what is kept.
 use fields::find;
 ghost use mathlib.Core.Path.{_≡_};
 ghost use Prim.Native.Nat.{_+_, _≤_};
 ghost use lib.ListN.{length, take, drop};
+ghost use Rattle.pieces.specs.Answers.{meaning};
 ghost use Rattle.pieces.specs.Pieces.{Cuts, kept-length, Keeps};
+
+// Where the text that is to be played next ends; or there is none: at the input's end or after the last line that a run
+// takes, or because a read failed.
+pub enum Got {
+    Text(usize),
+    End,
+    Failed,
+}
 
 // Where the next whole line of a piece ends; or none of its line feeds is left.
 pub enum NextLine {
@@ -17,6 +26,23 @@ pub enum Stop {
     Unfinished,
     Full,
     Limit,
+}
+
+// What a read behind the characters that are held means, where the text now ends. An interrupted one leaves the text as
+// it is, to be read on.
+pub fn meaning_of(failed: bool, interrupted: bool, held: usize, end: usize) -> Got
+    ensures { λ r. ⌜ r ≡ meaning failed interrupted held end ⌝ }
+{
+    if failed {
+        if interrupted {
+            return Got::Text(held);
+        }
+        return Got::Failed;
+    }
+    if end == held {
+        return Got::End;
+    }
+    Got::Text(end)
 }
 
 // The next line of a piece of which so much was read.

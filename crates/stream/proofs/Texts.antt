@@ -10,9 +10,9 @@ use Rattle.text.specs.Fields.{until}
 use Rattle.pieces.specs.declared.Stop.{Stop}
 use Rattle.pieces.specs.declared.Stop.the-variants.{Full, Limit}
 use Rattle.pieces.specs.Pieces.{Unbroken, Kept}
-use Rattle.reading.specs.Reading.{meaning, Over}
-use Rattle.reading.specs.declared.Got.{Got}
-use Rattle.reading.specs.declared.Got.the-variants.{Text, End, Failed}
+use Rattle.pieces.specs.Answers.{meaning, Over}
+use Rattle.pieces.specs.declared.Got.{Got}
+use Rattle.pieces.specs.declared.Got.the-variants.{Text, End, Failed}
 
 pub same-end : (m n : ℕ) → Text m ≡ Text n → m ≡ n
 same-end m n e = cc

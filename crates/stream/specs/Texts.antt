@@ -3,9 +3,9 @@ use Prim.Native.Nat.{ℕ, _≤_}
 use mathlib.Core.Path.{_≡_}
 use mathlib.Core.List.{List}
 use lib.ListN.{length, take}
-use Rattle.reading.specs.Reading.{Over}
-use Rattle.reading.specs.declared.Got.{Got}
-use Rattle.reading.specs.declared.Got.the-variants.{Text}
+use Rattle.pieces.specs.Answers.{Over}
+use Rattle.pieces.specs.declared.Got.{Got}
+use Rattle.pieces.specs.declared.Got.the-variants.{Text}
 
 -- the text to be played next lies within the input, of which `held` characters were kept
 pub record Next (got : Got) (held : ℕ) (input : List ℕ) : Type 0 where

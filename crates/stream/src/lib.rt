@@ -1,15 +1,15 @@
 // Event lines from one open file, their answers to another.
 use feeder::feed;
+use pieces::Got;
 use pieces::Stop;
-use reading::Got;
-use reading::meaning_of;
-use reading::play_rest;
+use pieces::meaning_of;
+use rest::play_rest;
 use runner::Run;
 ghost use Prim.Native.Nat.{_+_, _≤_};
 ghost use lib.ListN.{length};
 ghost use Rattle.turns.specs.Turned.{Ready};
 ghost use Rattle.pieces.specs.Pieces.{Kept};
-ghost use Rattle.reading.specs.Reading.{Over};
+ghost use Rattle.pieces.specs.Answers.{Over};
 ghost use Rattle.stream.specs.Texts.{Reads, Next};
 
 // How playing ended: all was played and written, or a read or a write failed.
