@@ -27,19 +27,6 @@ fn put_digit(out: &mut [u8], at: usize, place: usize, n: usize) -> usize
     put(out, at, b'0' + digit)
 }
 
-// The digits of a number up to 99,999.
-fn put_digits(out: &mut [u8], at: usize, n: usize) -> usize
-    requires { ⌜ at + 5 ≤ length (now out) ⌝ }
-    ensures { λ r. ⌜ Appends (decimal n) at (now (out .entry)) r (now (out .exit)) ⌝ }
-{
-    let a = put_digit(out, at, 10000, n);
-    let b = put_digit(out, a, 1000, n);
-    let c = put_digit(out, b, 100, n);
-    let d = put_digit(out, c, 10, n);
-    let digit = (n % 10) as u8;
-    put(out, d, b'0' + digit)
-}
-
 // A number up to 99,999. Most have one digit.
 pub fn put_decimal(out: &mut [u8], at: usize, n: usize) -> usize
     requires { ⌜ at + 5 ≤ length (now out) ⌝ }
@@ -49,7 +36,12 @@ pub fn put_decimal(out: &mut [u8], at: usize, n: usize) -> usize
         let digit = n as u8;
         return put(out, at, b'0' + digit);
     }
-    put_digits(out, at, n)
+    let a = put_digit(out, at, 10000, n);
+    let b = put_digit(out, a, 1000, n);
+    let c = put_digit(out, b, 100, n);
+    let d = put_digit(out, c, 10, n);
+    let last = (n % 10) as u8;
+    put(out, d, b'0' + last)
 }
 
 // A hexadecimal digit, in capitals ('A' is 65).
@@ -87,17 +79,6 @@ fn put_zeros(out: &mut [u8], at: usize) -> usize
     at + 4
 }
 
-// The high byte of a group, then the low one.
-fn put_two(out: &mut [u8], at: usize, group: u16) -> usize
-    requires { ⌜ at + 4 ≤ length (now out) ⌝ }
-    ensures { λ r. ⌜ Appends (group-text group) at (now (out .entry)) r (now (out .exit)) ⌝ }
-{
-    let high = (group / 256) as u8;
-    let low = (group % 256) as u8;
-    let a = put_byte(out, at, high);
-    put_byte(out, a, low)
-}
-
 // A group: four hexadecimal digits. Most are empty.
 pub fn put_group(out: &mut [u8], at: usize, group: u16) -> usize
     requires { ⌜ at + 4 ≤ length (now out) ⌝ }
@@ -106,7 +87,10 @@ pub fn put_group(out: &mut [u8], at: usize, group: u16) -> usize
     if group == 0 {
         return put_zeros(out, at);
     }
-    put_two(out, at, group)
+    let high = (group / 256) as u8;
+    let low = (group % 256) as u8;
+    let a = put_byte(out, at, high);
+    put_byte(out, a, low)
 }
 
 // Bytes: two hexadecimal digits each.
