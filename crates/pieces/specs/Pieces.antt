@@ -29,9 +29,9 @@ pub record Whole-line (piece : List ℕ) (read end : ℕ) : Type 0 where
   pub rest : drop (end + 1) piece ≡ past line-feed (drop read piece)
   pub broken : Broken (drop read piece)
 
-abbrev pub Cuts : List ℕ → ℕ → NextLine → Type 0
-Cuts piece read (next.EndsAt end) = Whole-line piece read end
-Cuts piece read next.Unfinished = Unbroken (drop read piece)
+abbrev pub Next-line : List ℕ → ℕ → NextLine → Type 0
+Next-line piece read (next.EndsAt end) = Whole-line piece read end
+Next-line piece read next.Unfinished = Unbroken (drop read piece)
 
 -- A program's state w became v by the lines of a piece up to `read`, which gave this text: whatever follows the piece,
 -- what is still to be written is what the rest gives.

@@ -4,7 +4,7 @@ ghost use mathlib.Core.Path.{_≡_};
 ghost use Prim.Native.Nat.{_+_, _≤_};
 ghost use lib.ListN.{length, take, drop};
 ghost use Rattle.pieces.specs.Answers.{meaning};
-ghost use Rattle.pieces.specs.Pieces.{Cuts, kept-length, Keeps};
+ghost use Rattle.pieces.specs.Pieces.{Next-line, kept-length, Keeps};
 
 // Where the text that is to be played next ends; or there is none: at the input's end or after the last line that a run
 // takes, or because a read failed.
@@ -48,7 +48,7 @@ pub fn meaning_of(failed: bool, interrupted: bool, held: usize, end: usize) -> G
 // The next line of a piece of which so much was read.
 pub fn next_line(piece: &[u8], read: usize) -> NextLine
     requires { ⌜ read ≤ length (now piece) ⌝ }
-    ensures { λ r. ⌜ Cuts (now (piece .entry)) read r ⌝ }
+    ensures { λ r. ⌜ Next-line (now (piece .entry)) read r ⌝ }
 {
     let n = find(&piece[read..], b'\n');
     let end = read + n;
