@@ -52,14 +52,40 @@ fn copy_block(image: &mut [u8], s: Shape, g: u16, save: bool, b: usize, k: Budge
     store(image, TAGS + b, 0, copied)
 }
 
+// Whether the eight bytes from an offset on are all 0.
+fn eight_zeros(image: &[u8], at: usize) -> bool
+    requires { ⌜ at + 8 ≤ length (now image) ⌝ }
+    ensures { λ r. ⌜ (r ≡ true → (x : ℕ) → x < 8 → getD (now (image .entry)) (at + x) 0 ≡ 0) ⌝ }
+{
+    let low = image[at] | image[at + 1] | image[at + 2] | image[at + 3];
+    let high = image[at + 4] | image[at + 5] | image[at + 6] | image[at + 7];
+    low | high == 0
+}
+
+// Passes over blocks without a writer from b on, eight at a time.
+fn past_eights(image: &[u8], s: Shape, b: usize) -> usize
+    requires { ⌜ (allowed s ≡ true) × (length (now image) ≡ total s) × (b ≤ s .blocks) ⌝ }
+    ensures { λ r. ⌜ (b ≤ r) × (r ≤ s .blocks)
+        × ((j : ℕ) → b ≤ j → j < r → getD (now (image .entry)) (tags-at + j) 0 ≡ 0) ⌝ }
+{
+    let mut i = b;
+    while i + 8 <= s.blocks {
+        if !eight_zeros(image, TAGS + i) {
+            return i;
+        }
+        i += 8;
+    }
+    i
+}
+
 // The first block from b on that has an active writer, or B.
-fn next_tagged(image: &[u8], s: Shape, b: usize) -> usize
+pub fn next_tagged(image: &[u8], s: Shape, b: usize) -> usize
     requires { ⌜ (allowed s ≡ true) × (length (now image) ≡ total s) × (b ≤ s .blocks) ⌝ }
     ensures { λ r. ⌜ (b ≤ r) × (r ≤ s .blocks)
         × ((j : ℕ) → b ≤ j → j < r → getD (now (image .entry)) (tags-at + j) 0 ≡ 0)
         × ((r ≡ s .blocks) ⊎ (getD (now (image .entry)) (tags-at + r) 0 ≢ 0)) ⌝ }
 {
-    let mut i = b;
+    let mut i = past_eights(image, s, b);
     while i < s.blocks {
         if image[TAGS + i] != 0 {
             return i;

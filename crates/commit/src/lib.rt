@@ -9,7 +9,7 @@ use protocol::Reply;
 use store::answers::refusal;
 use volatile::Record;
 ghost use lib.ListN.{length};
-ghost use Rattle.protocol.specs.Calls.{Start, Acknowledge, first};
+ghost use Rattle.protocol.specs.Calls.{Start, Acknowledge, first, refusal-at};
 ghost use Rattle.store.specs.Promise.{Performed};
 ghost use Rattle.entry.specs.Tested.{entry-says, Tested};
 ghost use Rattle.commit.specs.Begin.{begin-tests, Offered};
@@ -29,17 +29,50 @@ fn begin(image: &[u8], state: Record, board: usize, context: &[u8]) -> Entry
     Entry::Taken(s)
 }
 
+// All tests of a start: how both begin, then 14.
+pub fn start_entry(image: &[u8], state: Record, board: usize, context: &[u8]) -> Entry
+    ensures { λ r. ⌜ Tested (refusal-at (now (image .entry)) state (Start board (now (context .entry))))
+        (Offered (now (image .entry)) state board (length (now (context .entry)))) (entry-says r) ⌝ }
+{
+    let entry = begin(image, state, board, context);
+    let Entry::Taken(s) = entry else {
+        return entry;
+    };
+    if state.engaged() != 0 {
+        return Entry::Refused(14);
+    }
+    Entry::Taken(s)
+}
+
+// All tests of an acknowledgement: how both begin, then 15 and 16.
+pub fn acknowledge_entry(image: &[u8], state: Record, board: usize, context: &[u8]) -> Entry
+    ensures { λ r. ⌜ Tested (refusal-at (now (image .entry)) state (Acknowledge board (now (context .entry))))
+        (Offered (now (image .entry)) state board (length (now (context .entry)))) (entry-says r) ⌝ }
+{
+    let entry = begin(image, state, board, context);
+    let Entry::Taken(s) = entry else {
+        return entry;
+    };
+    let i = board as u8;
+    let engaged = state.engaged();
+    if !has(engaged, i) {
+        return Entry::Refused(15);
+    }
+    let open = state.commit_of(i);
+    if has(open.acknowledged, i) {
+        return Entry::Refused(16);
+    }
+    Entry::Taken(s)
+}
+
 pub fn start(image: &mut [u8], state: Record, board: usize, context: &[u8], k: usize) -> Reply
     ensures { λ r. ⌜ Performed (Start board (now (context .entry))) k
         (now (image .entry)) state r (now (image .exit)) ⌝ }
 {
-    let entry = begin(image, state, board, context);
+    let entry = start_entry(image, state, board, context);
     let Entry::Taken(s) = entry else {
         return refusal(entry.number(), state);
     };
-    if state.engaged() != 0 {
-        return refusal(14, state);
-    }
     let i = board as u8;
     let rows = state.rows;
     let group = commit_closure(rows, i);
@@ -51,19 +84,12 @@ pub fn acknowledge(image: &mut [u8], state: Record, board: usize, context: &[u8]
     ensures { λ r. ⌜ Performed (Acknowledge board (now (context .entry))) k
         (now (image .entry)) state r (now (image .exit)) ⌝ }
 {
-    let entry = begin(image, state, board, context);
+    let entry = acknowledge_entry(image, state, board, context);
     let Entry::Taken(s) = entry else {
         return refusal(entry.number(), state);
     };
     let i = board as u8;
-    let engaged = state.engaged();
-    if !has(engaged, i) {
-        return refusal(15, state);
-    }
     let open = state.commit_of(i);
-    if has(open.acknowledged, i) {
-        return refusal(16, state);
-    }
     let next = state.acknowledge(i);
     let rows = next.rows;
     let group = without(rows, open.members);

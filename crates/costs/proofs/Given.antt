@@ -21,6 +21,7 @@ use Rattle.protocol.specs.Calls.{Request, Acknowledge, first, refusals, placing
 use Rattle.protocol.specs.Calls.{Outcome, perform}
 use Rattle.protocol.specs.declared.Shape.{Shape}
 use Rattle.protocol.proofs.Copies.{length-placing}
+use Rattle.protocol.proofs.Safety.{given-puts, deciding-stores}
 use Rattle.protocol.proofs.Counts.{length-deciding}
 use Rattle.protocol.proofs.Outcomes.{decisive}
 use Rattle.protocol.proofs.Plans.{given-inside, inside-indecisive, decided-after}
@@ -30,6 +31,23 @@ use Rattle.costs.proofs.Answers.{done-answer, done-finished, cut-nine, 
 use Rattle.costs.proofs.Counted.{deciding-cost, figure}
 use Rattle.costs.proofs.Kept.{tags-kept, placing-apart}
 use Rattle.costs.proofs.Opened.{called, Grouped, Open, gives, ends, stops, Turned}
+
+-- the stores of board i's context and of the commit of g, which it completes
+module _ (s : Shape) (m : Memory) (i g : ℕ) (context : List ℕ) where
+  -- the context leaves the tags
+  pub given-tags : (b : ℕ) → tagged-in g (after (given-puts s m i g context) m Tags b) ≡ tagged-in g (m Tags b)
+  unfolding rank
+  given-tags b = tags-kept m (placing-apart Tentative (i * s .context) context (omega arith)) b
+
+  -- all stores, counted in any memory in which the same blocks are tagged in g
+  pub deciding-length : length context ≡ s .context → (m₀ : Memory)
+      → ((b : ℕ) → tagged-in g (m Tags b) ≡ tagged-in g (m₀ Tags b))
+      → length (deciding-stores s m i g context) ≡ deciding-cost s g m₀
+  deciding-length full m₀ tags =
+      let puts = given-puts s m i g context in
+      let same = count-same (s .blocks) _ (λ b. tagged-in g (m₀ Tags b)) (λ b l. given-tags b ∙ tags b) in
+      length-append puts (deciding s (after puts m) g)
+      ∙ rw (length-placing Tentative (i * s .context) context ∙ full, length-deciding s (after puts m) g, same)
 
 module _ (s : Shape) (g : ℕ) (m₀ : Memory) where
   -- a call of board i, taken, that gives a context to the commit of g, open in `before`, which n have acknowledged
@@ -66,9 +84,7 @@ module _ (s : Shape) (g : ℕ) (m₀ : Memory) where
       context-length = length-placing Tentative (i * s .context) context ∙ h .full
 
       context-tags : (b : ℕ) → tagged-in g (after context-puts m Tags b) ≡ tagged-in g (m₀ Tags b)
-      unfolding rank
-      context-tags b =
-          tags-kept m (placing-apart Tentative (i * s .context) context (omega arith)) b ∙ h .before-it .tags b
+      context-tags b = given-tags s m i g context b ∙ h .before-it .tags b
 
       -- acknowledged boards are members
       acks-inside : (j : ℕ) → has acks j ≡ true → has g j ≡ true
@@ -117,12 +133,7 @@ module _ (s : Shape) (g : ℕ) (m₀ : Memory) where
           (ap (λ x. context-puts ++ deciding s (after context-puts m) x) (h .before-it .members))
 
       all-length : eqb acks g ≡ true → length (the-plan .stores) ≡ deciding-cost s g m₀
-      all-length e =
-          let rest = deciding s (after context-puts m) g in
-          let same = count-same (s .blocks) _ (λ b. tagged-in g (m₀ Tags b)) (λ b l. context-tags b) in
-          ap length (all-stores e)
-          ∙ length-append context-puts rest
-          ∙ rw (context-length, length-deciding s (after context-puts m) g, same)
+      all-length e = ap length (all-stores e) ∙ deciding-length s m i g context (h .full) m₀ (h .before-it .tags)
 
       abbrev outcome : ℕ → Outcome
       outcome k = perform image r request k

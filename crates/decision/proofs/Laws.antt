@@ -4,10 +4,10 @@ use mathlib.Core.Path.{_≡_, refl, sym, _∙_, ap, subst}
 use mathlib.Core.Bool.{true, false, not}
 use mathlib.Core.List.{List, [], _∷_, _++_, map, append-nil}
 use mathlib.Core.Logic.{⊎-elim, _≢_}
-use lib.Dec.{ltb}
+use lib.Dec.{ltb, leb}
 use lib.ListN.{length, take, length-map, length-append}
 use native.Mathlib.Omega.{arith}
-use borrow.Author.Tests.{eq-eqb, ne-eqb, ltb-true, ltb-false}
+use borrow.Author.Tests.{eq-eqb, ne-eqb, ltb-true, ltb-false, lt-leb, le-leb}
 use Rattle.boards.specs.Lists.{anyOf}
 use Rattle.protocol.specs.Image.{Decision, Group, Tentative, Memory, Put, put, raw, base, allowed, total, view}
 use Rattle.protocol.specs.Image.{rank, change, after}
@@ -16,13 +16,11 @@ use Rattle.protocol.specs.Calls.{placing, copying, block-copied, blocks-copied,
 use Rattle.protocol.specs.Calls.{acknowledging, decides}
 use Rattle.protocol.specs.declared.Shape.{Shape}
 use Rattle.volatile.specs.declared.Record.{Record}
-use Rattle.boards.proofs.Basics.{decide, All, all-append}
+use Rattle.boards.proofs.Basics.{decide, All}
 use Rattle.protocol.proofs.Bridge.{Valid}
 use Rattle.protocol.proofs.Copies.{length-placing}
 use Rattle.protocol.proofs.Safety.{deciding-stores}
-use Rattle.protocol.proofs.Plans.{given-inside, inside-valid, group-valid, deciding-valid, undecided-before}
-use Rattle.protocol.proofs.Plans.{decided-after, inside-quiet}
-use Rattle.protocol.proofs.Outcomes.{made-decides}
+use Rattle.protocol.proofs.Plans.{given-inside, inside-valid, group-valid, inside-quiet, decides-third}
 use Rattle.layout.proofs.Laws.{bounded}
 use Rattle.store.specs.Budget.{Makes, WellBudget, one, start as whole}
 use Rattle.store.specs.Runs.{put-stores}
@@ -83,6 +81,13 @@ pub given-puts : {s : Shape} (i : ℕ) (context : List ℕ) {at k : ℕ} {b : Bu
 given-puts {s} i context e m =
     record { makes = rw (placing-stores s Tentative (i * s .context) _ context (ap (λ n. n + i * s .context) e)) m }
 
+not-ltb : (a b : ℕ) → not (ltb a b) ≡ leb b a
+not-ltb a b =
+    ⊎-elim
+    (λ (h : ltb a b ≡ true). ap not h ∙ sym (lt-leb b a (ltb-true a b h)))
+    (λ (h : ltb a b ≡ false). ap not h ∙ sym (le-leb b a (ltb-false a b h)))
+    (decide (ltb a b))
+
 module _ {s : Shape} {x : List ℕ} (i : ℕ) (context : List ℕ) {k : ℕ} (board : i < s .boards)
     (full : length context ≡ s .context)
     {r : Record} (before : Record) (same : r ≡ acknowledge before i)
@@ -111,16 +116,7 @@ module _ {s : Shape} {x : List ℕ} (i : ℕ) (context : List ℕ) {k : ℕ} (bo
           (length-map (ps ++ group-puts g) (raw s) ∙ length-append ps (group-puts g)
           ∙ ap (λ n. n + 3) (length-placing Tentative (i * s .context) context))
           in
-          let given-valid = inside-valid (given-inside s i context board full) in
-          let valid = all-append given-valid (deciding-valid s (after ps m) g) in
-          ap not short
-          ∙ ⊎-elim
-          (λ (h : ltb k (length context + 3) ≡ true).
-          ap not h ∙ sym (undecided-before s m i g context k (ltb-true _ _ h)))
-          (λ (h : ltb k (length context + 3) ≡ false).
-          ap not h ∙ sym (decided-after s m i g context k (ltb-false _ _ h)))
-          (decide (ltb k (length context + 3)))
-          ∙ sym (made-decides s k (deciding-stores s m i g context) valid)
+          ap not short ∙ not-ltb k (length context + 3) ∙ sym (decides-third s m i g context board full k)
 
       -- all have: the commit is decided and completed
       pub commits-all : {left : Budget} {w : List ℕ} {next : Record} → length x ≡ total s

@@ -1,6 +1,9 @@
-// How a run ends: at the limit of 99,999 lines, whose last is cut, and by errors of the system. Each run is told in a
-// line. The long events and their answers are files of the folder that the program is run in.
+// How a run ends: at the limit of 99,999 lines, whose last is cut, by errors of the system, and a page at its limit of
+// 9,999 commits. Each run is told in a line. The long events and what is printed of them are files of the folder that
+// the program is run in.
+use reports::Task;
 use stream::Ended;
+ghost use Rattle.reports.specs.Tasks.{Fits};
 
 // Writes a line so many times.
 fn repeat(fd: i32, line: &[u8], times: usize) {
@@ -21,6 +24,15 @@ fn write_events() {
     libc::close(fd);
 }
 
+// So many commits, each of which saves a cell; then a line that is longer than two pieces of what is read.
+fn write_commits(times: usize) {
+    let fd = os::open_overwrite(b"commits");
+    io::write_all(fd, b"F,1,1,1,0\n");
+    repeat(fd, b"W,0,0,07\nC,0,\n", times);
+    repeat(fd, b"0123456789", 2000);
+    libc::close(fd);
+}
+
 fn tell(ended: Ended) {
     match ended {
         Ended::Played => {
@@ -35,14 +47,23 @@ fn tell(ended: Ended) {
     }
 }
 
-// Plays from one open file to another; tells how that ended, and the next two bytes of the input, if any are left.
-fn play(name: &[u8], from: i32, to: i32) {
+// Plays from one open file to another.
+fn play_files(task: Task, from: i32, to: i32) -> Ended
+    requires { ⌜ Fits task ⌝ }
+{
     let mut input = [0u8; 8353];
     let mut area = [0u8; 35852];
     let mut out = [0u8; 32768];
+    stream::play(from, to, 8192, task, &mut input, &mut area, &mut out)
+}
+
+// Plays; tells how that ended, and the next two bytes of the input, if any are left.
+fn play(name: &[u8], task: Task, from: i32, to: i32)
+    requires { ⌜ Fits task ⌝ }
+{
     let mut next = [0u8; 2];
     io::write_all(1, name);
-    let ended = stream::play(from, to, 8192, &mut input, &mut area, &mut out);
+    let ended = play_files(task, from, to);
     tell(ended);
     let n = io::read_full(from, &mut next);
     io::write_all(1, b", left: ");
@@ -52,35 +73,53 @@ fn play(name: &[u8], from: i32, to: i32) {
     libc::close(to);
 }
 
-// The last 80 bytes that were answered.
-fn tell_last() {
-    let mut text = [0u8; 80];
+// The last bytes that were printed, from an offset on that counts back from the end.
+fn tell_last(offset: i64) {
+    let mut text = [0u8; 96];
     let fd = os::open_read(b"played");
-    libc::lseek(fd, -80, libc::SEEK_END);
+    libc::lseek(fd, offset, libc::SEEK_END);
     let n = io::read_full(fd, &mut text);
     io::write_all(1, &text[..n]);
     libc::close(fd);
 }
 
+// `rsmrun`.
+fn play_rows(name: &[u8], from: i32, to: i32) {
+    let task = Task::rows();
+    play(name, task, from, to);
+}
+
+// `rsmpage`, and the last three lines that it printed.
+fn play_page(name: &[u8], from: i32) {
+    let task = Task::page();
+    play(name, task, from, os::open_overwrite(b"played"));
+    tell_last(-96);
+}
+
 // A read or a write that fails ends a run; after a write that failed nothing more is read.
 fn main() {
     write_events();
-    play(
+    play_rows(
         b"100,001 lines: ",
         os::open_read(b"long"),
         os::open_overwrite(b"played"),
     );
-    play(
+    play_rows(
         b"a directory as input: ",
         os::open_read(b"."),
         os::open_append(b"played"),
     );
-    play(b"closed input: ", -1, os::open_append(b"played"));
-    play(
+    play_rows(b"closed input: ", -1, os::open_append(b"played"));
+    play_rows(
         b"full output: ",
         os::open_read(b"long"),
         os::open_overwrite(b"/dev/full"),
     );
-    play(b"closed output: ", os::open_read(b"long"), -1);
-    tell_last();
+    play_rows(b"closed output: ", os::open_read(b"long"), -1);
+    tell_last(-80);
+    write_commits(9999);
+    play_page(b"page of 9,999 commits: ", os::open_read(b"commits"));
+    write_commits(10000);
+    play_page(b"page of 10,000 commits: ", os::open_read(b"commits"));
+    play_page(b"page of a directory: ", os::open_read(b"."));
 }

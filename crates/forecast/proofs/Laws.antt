@@ -1,31 +1,59 @@
 -- Loops that count, figures that fit, forecasts refused or taken.
-use Prim.Native.Nat.{ℕ, _+_, _*_, _≤_}
+use Prim.Native.Nat.{ℕ, zero, suc, _+_, _-_, _*_, _≤_, _<_}
 use native.Mathlib.Nat.{mul-le-mul}
 use native.Mathlib.Omega.{arith}
 use mathlib.Core.Path.{_≡_, sym, _∙_, ap, ap₂}
-use mathlib.Core.Bool.{Bool, true, not, cond}
+use mathlib.Core.Bool.{Bool, true, false, not, cond}
 use mathlib.Core.List.{List, []}
 use mathlib.Core.Logic.{_≢_}
-use lib.ListN.{length}
+use lib.ListN.{length, getD}
 use borrow.Author.Tests.{eq-eqb, ne-eqb}
 use Rattle.boards.specs.Boards.{has, tagged-in}
 use Rattle.volatile.specs.Volatile.{engaged}
 use Rattle.volatile.specs.declared.Record.{Record}
-use Rattle.protocol.specs.Image.{Memory, Tags, allowed, shape-of, view}
+use Rattle.protocol.specs.Image.{Memory, Tags, allowed, shape-of, view, base, size}
 use Rattle.protocol.specs.Calls.{Test, first, entry-tests}
 use Rattle.protocol.specs.declared.Shape.{Shape}
+use Rattle.protocol.proofs.Bridge.{view-at}
 use Rattle.protocol.proofs.Refusals.{first-held, first-passed, entry-goes-on}
+use Rattle.layout.specs.Headers.{tags-at}
 use Rattle.layout.proofs.Laws.{bounded}
 use Rattle.costs.specs.Forecasts.{those, boards-of, tagged-blocks, blocks-cost, refused, answered, commit-tests}
 use Rattle.costs.specs.declared.Forecast.{Forecast}
 use Rattle.costs.proofs.Answers.{answered-refused, answered-taken}
 use Rattle.costs.proofs.Counted.{those-more, those-most}
 
+-- the test of a block
+abbrev pub chosen : List ℕ → Shape → ℕ → ℕ → Bool
+chosen image s g b = tagged-in g (view s image Tags b)
+
 -- one round of a loop that counts
 pub one-more : (i : ℕ) (p : ℕ → Bool) {n next : ℕ} {yes : Bool} → n ≡ length (those i p) → yes ≡ p i
     → next ≡ n + cond yes 1 0 → next ≡ length (those (i + 1) p)
 one-more i p e t f =
     f ∙ ap₂ (λ n b. n + cond b 1 0) e t ∙ sym (those-more i p) ∙ ap (λ j. length (those j p)) (omega arith)
+
+-- numbers of which none passes the test are passed over
+none-more : (p : ℕ → Bool) (b n : ℕ) → ((j : ℕ) → b ≤ j → j < b + n → p j ≡ false)
+    → length (those (b + n) p) ≡ length (those b p)
+none-more p b zero none = ap (λ j. length (those j p)) (omega arith)
+none-more p b (suc n) none =
+    let last : length (those (suc (b + n)) p) ≡ length (those (b + n) p) + 0 =
+    those-more (b + n) p ∙ ap (λ t. length (those (b + n) p) + cond t 1 0) (none (b + n) (omega arith) (omega arith)) in
+    let rest = none-more p b n (λ j h l. none j h (omega arith)) in
+    let one : b + suc n ≡ suc (b + n) = omega arith in
+    ap (λ j. length (those j p)) one ∙ omega (arith, last, rest)
+
+-- blocks without a writer are
+pub untagged-passed : (image : List ℕ) (s : Shape) (g b c : ℕ) → b ≤ c → c ≤ s .blocks
+    → ((j : ℕ) → b ≤ j → j < c → getD image (tags-at + j) 0 ≡ 0)
+    → length (those b (chosen image s g)) ≡ length (those c (chosen image s g))
+unfolding base size tagged-in
+untagged-passed image s g b c l m none =
+    let all : b + (c - b) ≡ c = omega arith in
+    sym (ap (λ n. length (those n (chosen image s g))) (sym all)
+    ∙ none-more (chosen image s g) b (c - b)
+    (λ j h i. ap (tagged-in g) (view-at s image Tags j (omega arith) ∙ none j h (omega arith))))
 
 -- bounds of the figures
 module _ (s : Shape) (fine : allowed s ≡ true) (g : ℕ) where

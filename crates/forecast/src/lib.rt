@@ -1,5 +1,6 @@
 // Forecasts: what a commit that a board starts next, or a fault of it made next, will answer and store (document 02,
 // Req 02). Nothing is stored, and the record stays as it is.
+use blocks::next_tagged;
 use boards::sets::has;
 use boards::sets::tagged_in;
 use costs::Forecast;
@@ -26,8 +27,8 @@ fn counted(n: usize, yes: bool) -> usize
     if yes { n + 1 } else { n }
 }
 
-// How many boards a group has.
-fn member_count(s: Shape, g: u16) -> usize
+// How many boards a group has. Public, as is the next one: document 02's Req 05 counts the same.
+pub fn member_count(s: Shape, g: u16) -> usize
     requires { ⌜ allowed s ≡ true ⌝ }
     ensures { λ r. ⌜ r ≡ length (boards-of s g) ⌝ }
 {
@@ -41,18 +42,18 @@ fn member_count(s: Shape, g: u16) -> usize
     n
 }
 
-// How many blocks are tagged by a board of the group. Public, since document 02's Req 05 counts the same blocks.
+// How many blocks are tagged by a board of the group; those without a writer are passed over.
 pub fn tagged_count(image: &[u8], s: Shape, g: u16) -> usize
     requires { ⌜ (allowed s ≡ true) × (length (now image) ≡ total s) ⌝ }
     ensures { λ r. ⌜ r ≡ length (tagged-blocks s (view s (now (image .entry))) g) ⌝ }
 {
     let mut n = 0;
-    let mut b = 0;
+    let mut b = next_tagged(image, s, 0);
     while b < s.blocks {
         let tag = image[TAGS + b];
         let chosen = tagged_in(g, tag);
         n = counted(n, chosen);
-        b += 1;
+        b = next_tagged(image, s, b + 1);
     }
     n
 }

@@ -1,29 +1,28 @@
--- The stores of a format, round by round and all together; none of them decides; how the call ends.
+-- The stores of a format, round by round and all together; how the call ends.
 use Prim.Native.Nat.{ℕ, suc, _+_, _-_, _≤_}
-use mathlib.Core.Path.{_≡_, refl, sym, _∙_, ap, subst}
+use mathlib.Core.Path.{_≡_, sym, _∙_, ap, subst}
 use mathlib.Core.Bool.{true, false, not}
 use mathlib.Core.List.{List, [], _∷_}
-use mathlib.Core.Logic.{_≢_, ⊎-elim}
-use lib.Dec.{eqb}
-use lib.ListN.{length, getD, take, List·getD-eq-default}
+use mathlib.Core.Logic.{_≢_}
+use lib.ListN.{length, getD, List·getD-eq-default}
 use native.Mathlib.Omega.{arith}
-use borrow.Author.Tests.{eq-eqb, ne-eqb, eqb-true}
-use Rattle.boards.specs.Lists.{anyOf, span}
+use borrow.Author.Tests.{eq-eqb, ne-eqb}
+use Rattle.boards.specs.Lists.{span}
 use Rattle.protocol.specs.Image.{Store, allowed, total, mark, header}
 use Rattle.volatile.specs.Volatile.{fresh}
-use Rattle.protocol.specs.Calls.{first, refused, decides, format-tests, formatting, format}
+use Rattle.protocol.specs.Calls.{first, refused, format-tests, formatting, format}
 use Rattle.protocol.specs.declared.Shape.{Shape}
 use Rattle.volatile.specs.declared.Record.{Record}
 use Rattle.protocol.specs.declared.Reply.{Reply}
-use Rattle.boards.proofs.Basics.{decide, none, also, all-append, all-take, anyOf-false}
 use Rattle.store.specs.Budget.{Makes, one, start}
 use Rattle.store.specs.declared.Budget.{Budget}
 use Rattle.store.proofs.Laws.{makes-then}
-use Rattle.boards.proofs.Basics.{span-append, span-more, span-same, all-span}
+use Rattle.boards.proofs.Basics.{span-append, span-more, span-same}
 use Rattle.store.specs.Promise.{Formatted, reply-of}
 use Rattle.protocol.specs.Calls.{refusal-of}
 use Rattle.store.proofs.Ends.{made-outcome}
 use Rattle.protocol.proofs.Refusals.{first-held, first-passed}
+use Rattle.protocol.proofs.Format.{undecided}
 use Rattle.format.specs.Stores.{header-store, zero-store}
 
 -- ---- the stores
@@ -51,18 +50,6 @@ laid-out s n long l m o p q =
     let zeros = span-same (header-store s) zero-store 9 9 (n - 9) (λ x _. past-header s (9 + x) (omega arith)) in
     rw (size, span-append (header-store s) 1 8 (n - 9), zeros)
     (makes-then m (makes-then (makes-then o p) q))
-
--- ---- none decides: byte 9 is past the header and stored 0
-
-quiet : (s : Shape) (i : ℕ) → decides (header-store s i) ≡ false
-unfolding decides header mark
-quiet s i = ⊎-elim (λ h. rw (eqb-true i 9 h)) (λ h. rw h) (decide (eqb i 9))
-
-pub undecided : (s : Shape) (k : ℕ) → anyOf decides (take k (formatting s)) ≡ false
-unfolding formatting decides
-undecided s k =
-    let middle = all-span (header-store s) {P = λ x. decides x ≡ false} 1 (total s - 1) (λ i _ _. quiet s i) in
-    anyOf-false decides (λ x h. h) (all-take k (also refl (all-append middle (also refl none))))
 
 -- ---- the call
 

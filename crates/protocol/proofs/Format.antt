@@ -1,23 +1,25 @@
--- A format that is done leaves the header of its shape and zeros behind it; one with allowance enough is done.
+-- A format that is done leaves the header of its shape and zeros behind it; one with allowance enough is done. None
+-- decides.
 use Prim.Native.Nat.{ℕ, zero, suc, _+_, _-_, _^_, _≤_, _<_}
 use mathlib.Core.Path.{_≡_, refl, _∙_, ap}
 use mathlib.Core.Bool.{true, false}
 use mathlib.Core.List.{List}
 use mathlib.Core.Logic.{_≢_, ⊎-elim}
 use lib.Dec.{eqb, ltb}
-use lib.ListN.{length, set, length-append, length-set, List·getD-eq-default}
+use lib.ListN.{length, take, set, length-append, length-set, List·getD-eq-default}
 use lib.Seq.{getD-set-same, getD-set-other, take-all}
 use native.Mathlib.Omega.{arith}
 use native.Mathlib.Nat.{mod-add-div}
 use borrow.Author.Tests.{eq-eqb, eqb-true, eqb-false, le-ltb, ltb-false, ltb-true}
-use Rattle.boards.specs.Lists.{span, every}
+use Rattle.boards.specs.Lists.{span, every, anyOf}
 use Rattle.protocol.specs.Image.{Area, allowed, total, base, size, rank, exponent, exponent-from, mark, header}
 use Rattle.protocol.specs.Image.{byte, shape-of, view, Store, made}
 use Rattle.volatile.specs.Volatile.{fresh}
-use Rattle.protocol.specs.Calls.{first, refused, executed, format-tests, formatting, format}
+use Rattle.protocol.specs.Calls.{first, refused, decides, executed, format-tests, formatting, format}
 use Rattle.protocol.specs.declared.Shape.{Shape}
 use Rattle.volatile.specs.declared.Record.{Record}
-use Rattle.boards.proofs.Basics.{decide, refute, below-suc, length-span}
+use Rattle.boards.proofs.Basics.{decide, refute, below-suc, All, none, also, all-append, all-take, anyOf-false}
+use Rattle.boards.proofs.Basics.{length-span, all-span}
 use Rattle.protocol.proofs.Bridge.{Sound, sound-bytes, limits, view-at, view-past, fits, past-header}
 use Rattle.protocol.proofs.Bridge.{length-made, made-append}
 
@@ -48,10 +50,23 @@ pub format-stores : (s : Shape) → length (formatting s) ≡ total s + 1
 unfolding formatting total
 format-stores s = simp (length-append, length-span) (omega arith)
 
--- stores of f at n offsets from a on; where f stood below a, it stands below a + n
+-- stores of f at n offsets from a on
 abbrev ascending : (ℕ → ℕ) → ℕ → ℕ → List Store
 ascending f a n = span (λ i. record { at = i; value = f i }) a n
 
+-- none decides: byte 9 is past the header and stored 0
+quiet : (s : Shape) (i : ℕ) → decides (record { at = i; value = byte (header s) i }) ≡ false
+unfolding decides header mark
+quiet s i = ⊎-elim (λ h. rw (eqb-true i 9 h)) (λ h. rw h) (decide (eqb i 9))
+
+pub undecided : (s : Shape) (k : ℕ) → anyOf decides (take k (formatting s)) ≡ false
+unfolding formatting decides
+undecided s k =
+    let middle : All (λ x. decides x ≡ false) (ascending (byte (header s)) 1 (total s - 1)) =
+    all-span _ 1 (total s - 1) (λ i _ _. quiet s i) in
+    anyOf-false decides (λ x h. h) (all-take k (also refl (all-append middle (also refl none))))
+
+-- where f stood below a, it stands below a + n
 stored : (f : ℕ → ℕ) (a n : ℕ) (image : List ℕ) (i : ℕ) →
     i < length image → (i < a → byte image i ≡ f i) → i < a + n →
     byte (made (ascending f a n) image) i ≡ f i
@@ -102,6 +117,12 @@ module _ (s : Shape) (image : List ℕ) (long : length image ≡ total s) where
 -- ---- the call
 
 module _ (s : Shape) (image : List ℕ) (r : Record) (k : ℕ) where
+  pub format-undecided : format s image r k .reply .answer .decided ≡ false
+  unfolding format refused executed
+  format-undecided =
+      let passed = eqb (first (format-tests s image)) 0 in
+      ⊎-elim (λ (e : passed ≡ true). rw e (undecided s k)) (λ (e : passed ≡ false). rw e) (decide passed)
+
   -- a format is done only if it is not refused and not cut
   format-passed : format s image r k .reply .answer .status ≡ 0 →
       (allowed s ≡ true) × (length image ≡ total s) × (total s + 1 ≤ k)

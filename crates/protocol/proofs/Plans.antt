@@ -5,10 +5,10 @@ use mathlib.Core.Path.{_≡_, refl, sym, _∙_, ap}
 use mathlib.Core.Bool.{Bool, true, false, _||_, not, or-assoc}
 use mathlib.Core.List.{List, [], _∷_, _++_, map, append-nil}
 use mathlib.Core.Logic.{⊎-elim}
-use lib.Dec.{eqb, ltb}
+use lib.Dec.{eqb, ltb, leb}
 use lib.ListN.{length, take}
 use native.Mathlib.Omega.{arith}
-use borrow.Author.Tests.{eqb-false, ne-eqb, ltb-false}
+use borrow.Author.Tests.{eqb-false, ne-eqb, ltb-false, leb-true, leb-false}
 use Rattle.boards.specs.Lists.{anyOf}
 use Rattle.boards.specs.Boards.{tagged-in, tagged}
 use Rattle.protocol.specs.Image.{Decision, Group, Tags, Current, Recovery, Tentative, Memory, Put, put, rank}
@@ -18,8 +18,8 @@ use Rattle.protocol.specs.Calls.{bad-range, stored-group, placing, taggi
 use Rattle.protocol.specs.Calls.{recovering, decides, acknowledging, plan, refusals}
 use Rattle.protocol.specs.Calls.{Request, Read, Write, Start, Acknowledge, Fault, Power-up, refusal-at}
 use Rattle.protocol.specs.declared.Shape.{Shape}
-use Rattle.boards.proofs.Basics.{or-false, All, none, also, all-append, all-cond, all-map, anyOf-false, or-right}
-use Rattle.boards.proofs.Basics.{all-take, take-append, false-and, row-fits}
+use Rattle.boards.proofs.Basics.{decide, or-false, All, none, also, all-append, all-cond, all-map, anyOf-false}
+use Rattle.boards.proofs.Basics.{or-right, all-take, take-append, false-and, row-fits}
 use Rattle.volatile.specs.Volatile.{commit-of, acknowledge}
 use Rattle.volatile.specs.declared.Record.{Record}
 use Rattle.protocol.proofs.Refusals.{begun, write-passed, start-passed}
@@ -256,3 +256,14 @@ module _ (s : Shape) (m : Memory) (i g : ℕ) (bytes : List ℕ) where
         anyOf-append,
       )
       (or-right (anyOf decisive (take k (announced s m i g bytes))) refl)
+
+  -- the stores of a commit decide if the third after the context is made
+  pub decides-third : i < s .boards → length bytes ≡ s .context → (k : ℕ)
+      → anyOf decides (take k (map (raw s) (deciding-stores s m i g bytes))) ≡ leb (length bytes + 3) k
+  decides-third board full k =
+      let third = leb (length bytes + 3) k in
+      made-decides s k _ (all-append (inside-valid (given-inside s i bytes board full)) (deciding-valid s _ g))
+      ∙ ⊎-elim
+      (λ (l : third ≡ true). decided-after k (leb-true _ _ l) ∙ sym l)
+      (λ (l : third ≡ false). undecided-before k (leb-false _ _ l) ∙ sym l)
+      (decide third)

@@ -1,9 +1,12 @@
-// Plays the event file of each pair that the arguments name, read in pieces of several sizes, and compares what is
-// answered with the stored answers. NAME stands for NAME.events and NAME.answers, in the folder that the program is run
-// in; what is answered goes through a file of that folder. A pair that can't be read is not as expected.
+// Plays the event file of each name that the arguments give, read in pieces of several sizes, and compares what is
+// printed with what is stored. NAME stands for NAME.events, NAME.answers as `rsmrun` prints them and NAME.page as
+// `rsmpage` does, in the folder that the program is run in; what is printed goes through a file of that folder. A file
+// that can't be read is not as expected.
+use reports::Task;
 use stream::Ended;
 ghost use Prim.Native.Nat.{_+_, _≤_};
 ghost use lib.ListN.{length};
+ghost use Rattle.reports.specs.Tasks.{Fits};
 
 // What was read of a file, and whether that is all of it.
 struct Got {
@@ -111,31 +114,46 @@ fn all_played(ended: Ended) -> bool {
     }
 }
 
-// Plays the events by pieces of a size, on an area that holds anything, into the file `played`. The input is no longer
-// than what may be kept and a piece; the output is small, so that many pieces take several turns.
-fn play_by(size: usize, events: &[u8]) -> bool
-    requires { ⌜ (1 ≤ size) × (size ≤ 8192) ⌝ }
+// Plays from one open file to another, on an area that holds anything. The input is no longer than what may be kept and a
+// piece; the output is small, so that many pieces take several turns.
+fn play_files(size: usize, task: Task, from: i32, to: i32) -> Ended
+    requires { ⌜ (1 ≤ size) × (size ≤ 8192) × Fits task ⌝ }
 {
     let mut input = [0u8; 8353];
     let mut area = [238u8; 35852];
     let mut out = [0u8; 1024];
+    let end = 161 + size;
+    stream::play(
+        from,
+        to,
+        size,
+        task,
+        &mut input[0..end],
+        &mut area,
+        &mut out,
+    )
+}
+
+// Plays the events by pieces of a size, into the file `played`.
+fn play_by(size: usize, task: Task, events: &[u8]) -> bool
+    requires { ⌜ (1 ≤ size) × (size ≤ 8192) × Fits task ⌝ }
+{
     let from = os::open_read(events);
     let to = os::open_overwrite(b"played");
-    let end = 161 + size;
-    let ended = stream::play(from, to, size, &mut input[0..end], &mut area, &mut out);
+    let ended = play_files(size, task, from, to);
     libc::close(from);
     libc::close(to);
     all_played(ended)
 }
 
-// Whether all was played and the file `played` holds what the file of answers holds.
-fn as_expected(all: bool, answers: &[u8]) -> bool {
+// Whether all was played and the file `played` holds what a stored file holds.
+fn as_expected(all: bool, stored: &[u8]) -> bool {
     if !all {
         return false;
     }
     let mut wanted = [0u8; 65536];
     let mut text = [0u8; 65536];
-    let a = load(answers, &mut wanted);
+    let a = load(stored, &mut wanted);
     let p = load(b"played", &mut text);
     if !a.whole {
         return false;
@@ -148,23 +166,35 @@ fn as_expected(all: bool, answers: &[u8]) -> bool {
     check::same(&text[0..m], &wanted[0..n])
 }
 
-// Plays the events of a name by pieces of a size; whether the answers are as expected.
-fn play_name(path: &mut [u8], n: usize, size: usize) -> bool
-    requires { ⌜ (n ≤ length (now path)) × (1 ≤ size) × (size ≤ 8192) ⌝ }
+// Plays the events of a name by pieces of a size; whether what is printed is what the file with an ending holds.
+fn play_name(path: &mut [u8], n: usize, size: usize, task: Task, ending: &[u8]) -> bool
+    requires { ⌜ (n ≤ length (now path)) × (1 ≤ size) × (size ≤ 8192) × Fits task ⌝ }
 {
     let end = with_ending(path, n, b".events");
-    let all = play_by(size, &path[0..end]);
-    let last = with_ending(path, n, b".answers");
+    let all = play_by(size, task, &path[0..end]);
+    let last = with_ending(path, n, ending);
     as_expected(all, &path[0..last])
 }
 
-// Plays them by pieces of each size; the first size by which the answers are not as expected, or 0.
+// Whether both answers and page are as expected.
+fn play_both(path: &mut [u8], n: usize, size: usize) -> bool
+    requires { ⌜ (n ≤ length (now path)) × (1 ≤ size) × (size ≤ 8192) ⌝ }
+{
+    let rows = Task::rows();
+    if !play_name(path, n, size, rows, b".answers") {
+        return false;
+    }
+    let page = Task::page();
+    play_name(path, n, size, page, b".page")
+}
+
+// Plays them by pieces of each size; the first size by which answers or page are not as expected, or 0.
 fn play_sizes(path: &mut [u8], n: usize) -> usize
     requires { ⌜ n ≤ length (now path) ⌝ }
 {
     for i in 0..5 {
         let size = size_of(i);
-        if !play_name(path, n, size) {
+        if !play_both(path, n, size) {
             return size;
         }
     }

@@ -1,26 +1,27 @@
 -- The last line, which has no line feed.
-use Prim.Native.Nat.{ℕ, _<_}
-use mathlib.Core.Path.{_≡_, sym, _∙_}
-use mathlib.Core.List.{List, append-nil}
+use Prim.Native.Nat.{ℕ}
+use mathlib.Core.Path.{_≡_, sym, _∙_, ap}
+use mathlib.Core.Bool.{true}
+use mathlib.Core.List.{List, _++_}
 use mathlib.Core.Logic.{_≢_}
 use lib.ListN.{length, take}
-use Rattle.text.specs.Rows.{rows-meant, rows-text}
-use Rattle.text.specs.Whole.{lines, output-by, Run as Whole, most-lines, line-text, rsmrun}
-use Rattle.text.proofs.Steps.{run-goes}
-use Rattle.digits.specs.Append.{Appends}
+use Rattle.text.specs.Events.{taken}
+use Rattle.text.specs.Whole.{lines, output-by}
 use Rattle.digits.proofs.Laws.{take-x}
 use Rattle.pieces.specs.Pieces.{Unbroken}
 use Rattle.pieces.proofs.Lines.{output-last}
-use Rattle.runner.specs.OneLine.{Line-played}
-use Rattle.runner.specs.declared.Played.{Played}
-use Rattle.runner.proofs.OneLine.{played-text}
+use Rattle.reports.specs.Reports.{State, report-close, reporting, goes}
+use Rattle.reports.specs.Tasks.{state-of, state-after, Stepped-on}
+use Rattle.reports.specs.declared.Stepped.{Stepped}
+use Rattle.reports.proofs.Laws.{goes-steps}
 
 -- its text is what is written, from the start of the output on
-pub last-played : (w : Whole) (rest : List ℕ) {r : Played} {area buffer out x : List ℕ} {e : ℕ} →
-    length rest ≢ 0 → w .played < most-lines → Unbroken rest → Line-played w rest r area buffer →
-    Appends (rows-text (r .run .played) (rows-meant (r .rows) buffer)) 0 out e x →
-    output-by rsmrun w (lines rest) ≡ take e x
-unfolding rsmrun
-last-played w rest h l u m n =
-    output-last rsmrun w rest h u (run-goes w rest l) ∙ append-nil (line-text w rest) ∙ sym (played-text m)
-    ∙ sym (take-x n)
+pub last-played : (w : State) (rest : List ℕ) {r : Stepped} {area out x : List ℕ} →
+    length rest ≢ 0 → goes w ≡ true → Unbroken rest → Stepped-on w (taken rest) 0 out r area x →
+    output-by reporting w (lines rest) ≡ take (r .written) x ++ report-close (state-of (r .task) area)
+unfolding reporting
+last-played w rest {r} {x = x} h going u m =
+    let v = state-after w (taken rest) in
+    output-last reporting w rest h u (goes-steps w rest going)
+    ∙ ap (λ (t : List ℕ). t ++ report-close v) (sym (take-x (m .written)))
+    ∙ ap (λ (v : State). take (r .written) x ++ report-close v) (sym (m .next))

@@ -1,6 +1,6 @@
-// One line of a run, played; what stands between two lines of a run; how many it takes.
-use events::take_apart;
+// A line of a run that was taken apart, played; what stands between two lines of a run; how many it takes.
 use player::play;
+use text::Parsed;
 use text::Rows;
 use turns::Session;
 use turns::UNCUT;
@@ -9,9 +9,10 @@ ghost use mathlib.Core.Path.{_≡_};
 ghost use mathlib.Core.List.{[]};
 ghost use Prim.Native.Nat.{_≤_, _<_};
 ghost use lib.ListN.{length};
+ghost use Rattle.text.specs.Events.{meant, counted};
 ghost use Rattle.text.specs.Whole.{start};
 ghost use Rattle.turns.specs.Turned.{Ready};
-ghost use Rattle.runner.specs.OneLine.{run-of, Line-played};
+ghost use Rattle.runner.specs.OneLine.{run-of, Event-played};
 
 // The lines that a run takes at most.
 pub const MOST: usize = 99999;
@@ -43,15 +44,15 @@ impl Run {
     }
 }
 
-// One line; its bytes go through the buffer, and those of its rows stand there afterwards.
-pub fn play_line(line: &[u8], area: &mut [u8], run: Run, buffer: &mut [u8]) -> Played
-    requires { ⌜ (Ready (run .session) (now area)) × (run .played < 99999) × (80 ≤ length (now buffer)) ⌝ }
-    ensures { λ r. ⌜ Line-played (run-of run (now (area .entry))) (now (line .entry)) r
+// A line that was taken apart; its bytes stand at the buffer's start, and those of its rows do so afterwards.
+pub fn play_event(line: Parsed, area: &mut [u8], run: Run, buffer: &mut [u8]) -> Played
+    requires { ⌜ (Ready (run .session) (now area)) × (run .played < 99999) × (counted line ≤ length (now buffer))
+        × (64 ≤ length (now buffer)) ⌝ }
+    ensures { λ r. ⌜ Event-played (run-of run (now (area .entry))) (meant line (now (buffer .entry))) r
         (now (area .exit)) (now (buffer .exit)) ⌝ }
 {
-    let parsed = take_apart(line, buffer);
     let session = run.session;
-    let turned = play(area, session, parsed, buffer);
+    let turned = play(area, session, line, buffer);
     let next = turned.next;
     let rows = turned.rows;
     let after = Run {

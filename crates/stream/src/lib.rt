@@ -1,15 +1,15 @@
-// Event lines from one open file, their answers to another.
+// Event lines from one open file, what is printed of them to another.
 use feeder::feed;
 use pieces::Got;
 use pieces::Stop;
 use pieces::meaning_of;
+use reports::Task;
 use rest::play_rest;
-use runner::Run;
 ghost use Prim.Native.Nat.{_+_, _≤_};
 ghost use lib.ListN.{length};
-ghost use Rattle.turns.specs.Turned.{Ready};
 ghost use Rattle.pieces.specs.Pieces.{Kept};
 ghost use Rattle.pieces.specs.Answers.{Over};
+ghost use Rattle.reports.specs.Tasks.{Fits};
 ghost use Rattle.stream.specs.Texts.{Reads, Next};
 
 // How playing ended: all was played and written, or a read or a write failed.
@@ -51,48 +51,72 @@ fn ending(got: Got) -> Ended {
 }
 
 // No text comes any more: what is left is played and written.
-fn close(got: Got, to: i32, rest: &[u8], area: &mut [u8], run: Run, out: &mut [u8]) -> Ended
-    requires { ⌜ (Over got (now rest)) × (Ready (run .session) (now area)) × (320 ≤ length (now out)) ⌝ }
+fn close(got: Got, to: i32, rest: &[u8], area: &mut [u8], task: Task, out: &mut [u8]) -> Ended
+    requires { ⌜ (Over got (now rest)) × Fits task × (35852 ≤ length (now area)) × (352 ≤ length (now out)) ⌝ }
 {
-    let n = play_rest(got, rest, area, run, out);
+    let n = play_rest(got, rest, area, task, out);
     if !io::write_all(to, &out[0..n]) {
         return Ended::OutputFailed;
     }
     ending(got)
 }
 
-// Plays the lines that are read, at most `size` characters at a time, and writes their answers, to the input's end or
-// for 99,999 lines. `size` is at least 1, since a read of no characters would look like the input's end. A proved loop
-// has to end, and nothing says that an input does: the loop counts its turns down from a number that no run uses up.
+// Plays the lines that are read, at most `size` characters at a time, and writes what the task prints of them, to the
+// input's end or until no next line is played. `size` is at least 1, since a read of no characters would look like the
+// input's end. A proved loop has to end, and nothing says that an input does: the loop counts its turns down from a
+// number that no run uses up.
 pub fn play(
     from: i32,
     to: i32,
     size: usize,
+    first: Task,
     input: &mut [u8],
     area: &mut [u8],
     out: &mut [u8],
 ) -> Ended
-    requires { ⌜ (1 ≤ size) × (161 + size ≤ length (now input)) × (35852 ≤ length (now area))
-        × (320 ≤ length (now out)) ⌝ }
+    requires { ⌜ (1 ≤ size) × Fits first × (161 + size ≤ length (now input)) × (35852 ≤ length (now area))
+        × (352 ≤ length (now out)) ⌝ }
 {
-    let mut run = Run::new();
+    let mut task = first;
     let mut held = 0;
     let mut stop = Stop::Unfinished;
     let mut turns = u64::MAX;
     while turns > 0 {
         let got = next_text(from, size, input, held, stop);
         let Got::Text(end) = got else {
-            return close(got, to, &input[0..held], area, run, out);
+            return close(got, to, &input[0..held], area, task, out);
         };
-        let fed = feed(input, end, area, run, out);
+        let fed = feed(input, end, area, task, out);
         let n = fed.written;
         if !io::write_all(to, &out[0..n]) {
             return Ended::OutputFailed;
         }
-        run = fed.run;
+        task = fed.task;
         held = fed.held;
         stop = fed.stop;
         turns -= 1;
     }
     Ended::Played
+}
+
+// An error of the system is told in one line on standard error.
+fn tell(ended: Ended, input: &[u8], output: &[u8]) {
+    match ended {
+        Ended::Played => {}
+        Ended::InputFailed => os::fail(input),
+        Ended::OutputFailed => os::fail(output),
+    }
+}
+
+// A whole program: plays standard input to standard output; `input` and `output` name these in a message. The input has
+// room for 161 characters that are kept and 4,096 that are read; the output for what most pieces answer, so that few are
+// played in two turns.
+pub fn run(first: Task, input: &[u8], output: &[u8])
+    requires { ⌜ Fits first ⌝ }
+{
+    let mut area = [0u8; 35852];
+    let mut text = [0u8; 4257];
+    let mut out = [0u8; 16384];
+    let ended = play(0, 1, 4096, first, &mut text, &mut area, &mut out);
+    tell(ended, input, output);
 }

@@ -40,7 +40,7 @@ pub fn file(mut input: &[u8]) -> Result<u32, String> {
 }
 
 /// The call of the list that an event is; formats and allowances are none.
-fn call_of<'a>(event: &Event<'a>) -> Option<Call<'a>> {
+pub(crate) fn call_of<'a>(event: &Event<'a>) -> Option<Call<'a>> {
     Some(match *event {
         Event::Allowance(_) | Event::Format(_) => return None,
         Event::Read { board, cell, n } => Call::Read {

@@ -6,6 +6,11 @@ use crate::module::{self, Shape};
 use crate::player::Player;
 use crate::random::Random;
 
+/// A file of the comparison, of 1 to 400 lines.
+pub fn file(seed: u64) -> Vec<u8> {
+    events(seed, Random::new(!seed).within(1, 400))
+}
+
 /// An event file of so many lines.
 pub fn events(seed: u64, lines: usize) -> Vec<u8> {
     let mut random = Random::new(seed);

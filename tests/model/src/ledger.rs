@@ -51,6 +51,9 @@ pub enum Told {
 pub struct Verdict {
     pub group: u16,
     pub decided: bool,
+    /// Of a commit that the call decided: the members, and the blocks whose
+    /// last write it keeps. Cut calls too.
+    pub saved: Option<(u16, usize)>,
     pub bytes: Vec<u8>,
 }
 
@@ -284,6 +287,7 @@ impl Ledger {
         commit.acknowledged |= bit(board);
         let group = commit.members;
         let decided = commit.acknowledged == group && k as usize >= self.context + 3;
+        let saved = decided.then(|| (group, self.blocks_of(group)));
         if decided {
             self.settle(group, State::Kept)?;
             for member in 0..self.kept.len() {
@@ -296,8 +300,18 @@ impl Ledger {
         Ok(Verdict {
             group,
             decided,
+            saved,
             bytes: Vec::new(),
         })
+    }
+
+    /// In how many blocks the last write noted is pending and by one of the
+    /// boards.
+    fn blocks_of(&self, boards: u16) -> usize {
+        let last = self.last_in_block.iter().flatten();
+        last.map(|number| &self.notes[*number])
+            .filter(|note| note.state == State::Pending && boards & bit(note.board) != 0)
+            .count()
     }
 
     /// Board and all that it depends on through any chain.

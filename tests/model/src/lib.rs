@@ -1,6 +1,6 @@
-//! The independent test side: a plain model of `rsmrun`, the ledger, the
-//! generators of event files. Written from document 01 and Req 01, 02 and 03
-//! of document 02 alone.
+//! The independent test side: a plain model of `rsmrun` and `rsmpage`, the
+//! ledger, the generators of event files. Written from document 01 and Req
+//! 01, 02, 03 and 05 of document 02 alone.
 #![forbid(unsafe_code)]
 
 pub mod cases;
@@ -12,6 +12,8 @@ pub mod ledger;
 pub mod lines;
 pub mod mixes;
 pub mod module;
+pub mod page;
+pub mod page_check;
 pub mod pieces;
 pub mod player;
 pub mod port_check;

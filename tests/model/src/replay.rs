@@ -1,5 +1,7 @@
 //! The replay files: fixed event files that together reach every situation
-//! of document 01 and of Req 01 of document 02 that lines can reach.
+//! of document 01 and of Req 01 and 05 of document 02 that lines can reach.
+
+mod pages;
 
 use crate::generate;
 use crate::lines::{self, Room, LONGEST};
@@ -143,6 +145,7 @@ pub fn all() -> Vec<Replay> {
     open_commits(&mut add);
     slips(&mut add);
     large(&mut add);
+    pages::add(&mut add);
     generated(&mut add);
     files
 }
@@ -195,6 +198,38 @@ pub fn long_run() -> Vec<u8> {
         });
     }
     script.lines("W,3,128,0A0B0C0D R,3,128,4");
+    script.0.pop();
+    script.0
+}
+
+/// The standard input of the gate's own run of `rsmpage`: several times what
+/// it reads at once, a page of several hundred lines, commits of one board
+/// and of two, some cut, other formats between, and a last line that decides
+/// and has no line feed.
+pub fn page_run() -> Vec<u8> {
+    let mut script = Script::default();
+    for round in 0..400 {
+        let (starter, other) = (round % 16, (round + 1 + round / 16) % 16);
+        let context = round / 100;
+        let size = 1 << (2 * context);
+        if round % 100 == 0 {
+            script.line(format!("F,16,{size},16,{context}"));
+        }
+        let cell = round % 16 * size;
+        script.line(format!("W,{other},{cell},{}", run(round, 1)));
+        script.line(format!("R,{starter},{cell},1"));
+        if round % 3 == 0 {
+            script.line(format!("W,{starter},{},01", (cell + size) % (16 * size)));
+        }
+        if round % 7 == 0 {
+            script.line(format!("C,{starter}"));
+        }
+        script.line(format!("C,{starter},{}", run(round, context)));
+        if round % 9 == 4 {
+            script.line(format!("Z,{}", context + round / 9 % 8));
+        }
+        script.line(format!("A,{other},{}", run(round + 1, context)));
+    }
     script.0.pop();
     script.0
 }

@@ -1,6 +1,6 @@
 //! What the gate's programs are held against is what the model makes; the
 //! script tests/stored writes it anew.
-use model::{cases, player, replay};
+use model::{cases, page, player, replay};
 use std::collections::BTreeMap;
 use std::fs;
 use std::path::PathBuf;
@@ -39,6 +39,13 @@ fn input_and_output_of_rsmrun() {
 }
 
 #[test]
+fn input_and_output_of_rsmpage() {
+    let input = replay::page_run();
+    assert!(input == fs::read(crates("rsmpage/stdin")).unwrap());
+    assert!(page::page(&input) == fs::read(crates("rsmpage/stdout")).unwrap());
+}
+
+#[test]
 fn replay_files() {
     let mut stored = BTreeMap::new();
     for entry in fs::read_dir(crates("replay/data")).unwrap() {
@@ -49,6 +56,8 @@ fn replay_files() {
     let mut made = BTreeMap::new();
     for file in replay::all() {
         let answers = player::answers(&file.events);
+        let page = page::page(&file.events);
+        made.insert(format!("{}.page", file.name), page);
         made.insert(format!("{}.events", file.name), file.events);
         made.insert(format!("{}.answers", file.name), answers);
     }

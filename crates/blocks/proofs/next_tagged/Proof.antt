@@ -18,11 +18,14 @@ Inv-loop image s b i₀ i =
 abbrev μ-loop : tie.MeasureT-loop
 μ-loop image s b i₀ i = s .blocks - i
 
+past-eights-requires : tie.Need-past-eights-requires Inv-loop μ-loop
+past-eights-requires c κs = c .before .pre
+
 loop-holds : tie.Need-loop-holds Inv-loop μ-loop
-loop-holds c = (omega arith, omega arith, λ j h l. absurd (omega arith))
+loop-holds c = c .past-eights .ensures
 
 add-if2 : tie.Need-add-if2 Inv-loop μ-loop
-add-if2 c = omega (arith, bounded (c .before .before .before .pre .0))
+add-if2 c = omega (arith, bounded (c .before .before .before .before .before .pre .0))
 
 shared-slice-read-if2 : tie.Need-shared-slice-read-if2 Inv-loop μ-loop
 unfolding total
@@ -41,7 +44,7 @@ loop-again : tie.Need-loop-again Inv-loop μ-loop
 loop-again c =
     let head = c .before .before .before .before in
     let at = head .loop in
-    let image = head .before .args .image .now in (
+    let image = head .before .before .before .args .image .now in (
       omega arith,
       omega arith,
       λ j h l.
@@ -60,6 +63,7 @@ next-tagged-spec =
     (tie.spec
     Inv-loop
     μ-loop
+    past-eights-requires
     loop-holds
     add-if2
     shared-slice-read-if2

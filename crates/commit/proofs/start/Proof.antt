@@ -1,107 +1,103 @@
--- `start` meets its contract: its tests in their order, and then the acknowledgement of its own opened commit.
+-- `start` meets its contract: its tests, and then the acknowledgement of its own opened commit.
+use borrow.Author.Needs.{needs}
 use mathlib.Core.Path.{_≡_, refl, ap}
 use native.Mathlib.Omega.{arith}
 use denote.Ref.{now}
 use lib.ListN.{length}
-use Rattle.protocol.specs.Calls.{Start, first, refusals, entry-tests, start-tests, record-refused, plan}
+use Rattle.protocol.specs.Calls.{Start, refusal-at, record-refused, plan}
 use Rattle.store.proofs.Ends.{performed, turned}
 use Rattle.entry.specs.Tested.{entry-says}
-use Rattle.entry.proofs.Laws.{small, if-taken, call-refused-first}
-use Rattle.commit.specs.Begin.{begin-tests, Offered}
-use Rattle.commit.proofs.Laws.{started, started-group, start-open, start-passes}
+use Rattle.entry.proofs.Laws.{small, if-taken, if-refused}
+use Rattle.commit.specs.Begin.{Offered}
+use Rattle.commit.proofs.Laws.{started, started-group}
 use Rattle.commit.proofs.start.Statement.{statement}
 use Rattle.commit.proofs.start.Tie as tie
 
+start-entry-requires : tie.Need-start-entry-requires
+start-entry-requires c κs = search needs
+
+enum-known-entry : tie.Need-enum-known-entry
+enum-known-entry c = search needs
+
+enum-told : tie.Need-enum-told
+enum-told c = search needs
+
+number-requires : tie.Need-number-requires
+number-requires c κs = search needs
+
+refusal-requires : tie.Need-refusal-requires
+refusal-requires c κs = search needs
+
+same-length : tie.Need-same-length
+same-length c = search needs
+
 returns : tie.Need-returns
-unfolding refusals entry-tests start-tests record-refused
+unfolding record-refused
 returns c =
     let asked = c .before .before in
     let tested = asked .before .before in
     let args = tested .before .before .before .before .args in
-    call-refused-first (args .state) (Start (args .board) (now (args .context))) (begin-tests _ _ _ _) _
-    (tested .begin .ensures) refl (ap entry-says (asked .enum-told .given .1)) (c .before .number .ensures)
-    (c .refusal .ensures) refl
+    let both = if-refused (tested .start-entry .ensures) (ap entry-says (asked .enum-told .given .1)) (c .before .number .ensures) in
+    turned (args .state) (Start (args .board) (now (args .context))) (both .0) (both .1) refl (c .refusal .ensures)
 
--- what is known once the beginning is passed
+-- what is known once the tests are passed
 known : (c : tie.After-entry) →
     let args = c .before .before .before .before .before .before .args in
-    let n = length (now (args .context)) in
-    (first (begin-tests (now (args .image)) (args .state) (args .board) n) ≡ 0)
-    × Offered (now (args .image)) (args .state) (args .board) n (c .entry .given .0 .0)
-known c = if-taken (c .before .before .begin .ensures) (c .entry .given .1)
-
-returns-2 : tie.Need-returns-2
-unfolding record-refused
-returns-2 c =
-    let asked = c .before .before in
-    let opened = asked .before .before in
-    let tested = opened .before .before in
-    let args = tested .before .before .before .before .args in
-    let passed = known opened in
-    let number = start-open _ _ _ _ (passed .0)
-    (λ z. omega (arith, c .before .if1 .taken, asked .engaged .ensures, z)) in
-    turned (args .state) (Start (args .board) (now (args .context))) number (λ z. omega arith) refl
-    (c .refusal2 .ensures)
+    (refusal-at (now (args .image)) (args .state) (Start (args .board) (now (args .context))) ≡ 0)
+    × Offered (now (args .image)) (args .state) (args .board) (length (now (args .context))) (c .entry .given .0 .0)
+known c = if-taken (c .before .before .start-entry .ensures) (c .entry .given .1)
 
 cast-i : tie.Need-cast-i
-cast-i c = omega (arith, small (known (c .before .before .before) .1 .entry))
+cast-i c = omega (arith, small (known (c .before) .1 .entry))
 
 commit-closure-requires : tie.Need-commit-closure-requires
-commit-closure-requires c κs = small (known (c .before .before .before .before) .1 .entry)
+commit-closure-requires c κs = small (known (c .before .before) .1 .entry)
 
 start-requires : tie.Need-start-requires
-start-requires c κs = small (known (c .before .before .before .before .before) .1 .entry)
+start-requires c κs = small (known (c .before .before .before) .1 .entry)
 
 give-requires : tie.Need-give-requires
 give-requires c κs =
     let started = c .before in
-    let opened = started .before .before .before .before .before .before in
-    let tested = opened .before .before in
-    let args = tested .before .before .before .before .args in
+    let opened = started .before .before .before .before in
+    let args = opened .before .before .before .before .before .before .args in
     let offered = known opened .1 in
     let entry = offered .entry in
     let group = started-group (args .state) (args .board) (started .start .ensures)
     (started .before .commit-closure .ensures) in
     (entry .shaped .allowed-shape, entry .shaped .long, entry .board, offered .full, group)
 
-same-length-3 : tie.Need-same-length-3
-same-length-3 c = c .before .image .given
+same-length-2 : tie.Need-same-length-2
+same-length-2 c = search needs
 
-returns-3 : tie.Need-returns-3
+returns-2 : tie.Need-returns-2
 unfolding plan
-returns-3 c =
+returns-2 c =
     let gave = c .before .before in
-    let opened-commit = gave .before .before in
-    let grouped = opened-commit .before in
-    let free = grouped .before .before in
-    let opened = free .before .before .before in
-    let tested = opened .before .before in
-    let args = tested .before .before .before .before .args in
+    let next = gave .before .before in
+    let grouped = next .before in
+    let opened = grouped .before .before .before in
+    let args = opened .before .before .before .before .before .before .args in
     let passed = known opened in
     let done = gave .give .ensures _
-    (started (args .state) (args .board) (opened-commit .start .ensures) (grouped .commit-closure .ensures .members)) in
+    (started (args .state) (args .board) (next .start .ensures) (grouped .commit-closure .ensures .members)) in
     performed (args .state) (Start (args .board) (now (args .context))) (passed .1 .entry .shaped .shape)
-    (start-passes _ _ _ _ (passed .0) (omega (arith, free .before .engaged .ensures, free .if1 .left)))
-    (done .reply) (done .image)
+    (passed .0) (done .reply) (done .image)
 
 pub start-spec : {M : Type 1} → statement M
 start-spec =
     tie.close
     (tie.spec
-    (λ c κs. tt)
-    (λ c. omega arith)
-    (λ c. omega arith)
-    (λ c κs. tt)
-    (λ c κs. tt)
-    (λ c. refl)
+    start-entry-requires
+    enum-known-entry
+    enum-told
+    number-requires
+    refusal-requires
+    same-length
     returns
-    (λ c κs. tt)
-    (λ c κs. tt)
-    (λ c. refl)
-    returns-2
     cast-i
     commit-closure-requires
     start-requires
     give-requires
-    same-length-3
-    returns-3)
+    same-length-2
+    returns-2)

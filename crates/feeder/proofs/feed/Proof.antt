@@ -1,6 +1,6 @@
 -- `feed` meets its contract: the lines are played, and what is kept stands at the input's start.
 use borrow.Author.Needs.{needs}
-use Rattle.runner.specs.OneLine.{run-of}
+use Rattle.reports.specs.Tasks.{state-of}
 use Rattle.feeder.proofs.Feeding.{fed}
 use Rattle.feeder.proofs.feed.Statement.{statement}
 use Rattle.feeder.proofs.feed.Tie as tie
@@ -35,7 +35,7 @@ returns c =
     let played = kept .before .before .before .before .before .before in
     let start = played .before .before .before .before .before .before .before .before in
     let args = start .args in
-    fed (run-of (args .run) (args .area .now)) (args .input .now) (c .before .before .input2 .given) (start .pre .0)
+    fed (state-of (args .task) (args .area .now)) (args .input .now) (c .before .before .input2 .given) (start .pre .0)
     (played .play-lines .ensures) (kept .keep .ensures)
 
 pub feed-spec : {M : Type 1} → statement M

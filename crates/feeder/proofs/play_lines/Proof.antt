@@ -1,12 +1,13 @@
 -- `play_lines` meets its contract: what the lines played so far gave is written.
 use Prim.Native.Nat.{_-_, _≤_}
-use mathlib.Core.Path.{_≡_, refl, _∙_, ap}
+use mathlib.Core.Path.{_≡_, refl, sym, _∙_}
+use mathlib.Core.Bool.{true}
 use native.Mathlib.Omega.{arith}
 use lib.ListN.{length, take}
-use Rattle.text.specs.Whole.{Run as Whole, next-run, rsmrun}
-use Rattle.turns.specs.Turned.{area-size}
 use Rattle.pieces.specs.Pieces.{Output}
-use Rattle.runner.specs.OneLine.{run-of}
+use Rattle.reports.specs.Reports.{reporting, goes}
+use Rattle.reports.specs.Tasks.{state-of, Fits}
+use Rattle.reports.proofs.Laws.{task-lines, stepped-more}
 use Rattle.feeder.proofs.Feeding.{progressed}
 use Rattle.feeder.proofs.play_lines.Statement.{statement}
 use Rattle.feeder.proofs.play_lines.Tie as tie
@@ -17,15 +18,24 @@ Inv-loop piece area₀ out₀ buffer₀ current₀ read₀ written₀ area out b
     × (length out ≡ length out₀)
     × (read ≤ length piece)
     × (written ≤ length out₀)
-    × (current .session .length ≤ area-size)
+    × Fits current
     × (length buffer ≡ 80)
-    × Output rsmrun (run-of current₀ area₀) piece (run-of current area) read (take written out)
+    × Output reporting (state-of current₀ area₀) piece (state-of current area) read (take written out)
 
 abbrev μ-loop : tie.MeasureT-loop
-μ-loop piece area₀ out₀ buffer₀ current₀ read₀ written₀ area out buffer current read written = 99999 - current .played
+μ-loop piece area₀ out₀ buffer₀ current₀ read₀ written₀ area out buffer current read written =
+    99999 - current .run .played
 
 loop-holds : tie.Need-loop-holds Inv-loop μ-loop
-loop-holds c = (refl, refl, omega arith, omega arith, c .before .before .before .pre .fits, refl, λ more. refl)
+loop-holds c = (refl, refl, omega arith, omega arith, c .before .before .before .pre .0, refl, λ more. refl)
+
+goes-on-requires : tie.Need-goes-on-requires Inv-loop μ-loop
+goes-on-requires c κs = tt
+
+-- a next line is played
+going : (c : tie.Then1 Inv-loop μ-loop) →
+    let at = c .before .before .loop in goes (state-of (at .current) (at .area)) ≡ true
+going c = sym (c .before .goes-on .ensures (c .before .before .loop .area)) ∙ c .if1 .taken
 
 next-line-requires : tie.Need-next-line-requires Inv-loop μ-loop
 next-line-requires c κs = c .before .before .loop .inv .2
@@ -48,7 +58,7 @@ returns c =
     let at = cut .before .before .before .loop in
     record {
       output = at .inv .6;
-      stops = (omega (arith, cut .before .if1 .taken), rw (c .enum-told .given .1) at (cut .next-line .ensures));
+      stops = (going (cut .before), rw (c .enum-told .given .1) at (cut .next-line .ensures));
       read = at .inv .2;
       written = omega (arith, at .inv .1, at .inv .3);
       fits = at .inv .4;
@@ -74,7 +84,7 @@ returns-2 c =
     record {
       output = at .inv .6;
       stops = (
-        omega (arith, cut .before .if1 .taken),
+        going (cut .before),
         whole .broken,
         omega (arith, c .if2 .taken, at .inv .1, at .inv .3),
       );
@@ -83,87 +93,73 @@ returns-2 c =
       fits = at .inv .4;
     }
 
-sub-play-line : tie.Need-sub-play-line Inv-loop μ-loop
-sub-play-line c =
+sub-step : tie.Need-sub-step Inv-loop μ-loop
+sub-step c =
     let known = c .before .before in
     let whole = rw (known .end .given .1) at (known .before .before .next-line .ensures) in
     omega (arith, whole .from)
 
-part-play-line-start : tie.Need-part-play-line-start Inv-loop μ-loop
-part-play-line-start c =
+part-step-start : tie.Need-part-step-start Inv-loop μ-loop
+part-step-start c =
     let known = c .before .before in
     let whole = rw (known .end .given .1) at (known .before .before .next-line .ensures) in
     omega (arith, whole .from)
 
-part-play-line-end : tie.Need-part-play-line-end Inv-loop μ-loop
-part-play-line-end c =
+part-step-end : tie.Need-part-step-end Inv-loop μ-loop
+part-step-end c =
     let known = c .before .before in
     let whole = rw (known .end .given .1) at (known .before .before .next-line .ensures) in
     omega (arith, whole .within)
 
-slice-aggregate-play-line : tie.Need-slice-aggregate-play-line Inv-loop μ-loop
-slice-aggregate-play-line c = omega arith
+slice-aggregate-step : tie.Need-slice-aggregate-step Inv-loop μ-loop
+slice-aggregate-step c = omega arith
 
-play-line-requires : tie.Need-play-line-requires Inv-loop μ-loop
-play-line-requires c κs =
-    let known = c .before .before .before .before .before in
-    let less = known .before .before .before in
-    let head = less .before .before in
-    let at = head .loop in
-    let start = head .before .before .before .before in (
-      record { whole = omega (arith, start .pre .whole, at .inv .0); fits = at .inv .4 },
-      omega (arith, less .if1 .taken),
-      omega (arith, at .inv .5),
-    )
-
-slice-aggregate-put-rows : tie.Need-slice-aggregate-put-rows Inv-loop μ-loop
-slice-aggregate-put-rows c = omega arith
-
-put-rows-requires : tie.Need-put-rows-requires Inv-loop μ-loop
-put-rows-requires c κs =
-    let played = c .before .before .before .before .before .before .before in
-    let roomy = played .before .before .before .before in
-    let at = roomy .before .before .before .before .before .before .before .loop in (
+step-requires : tie.Need-step-requires Inv-loop μ-loop
+step-requires c κs =
+    let roomy = c .before .before .before .before in
+    let asked = roomy .before .before .before .before .before in
+    let at = asked .before .before .loop in
+    let start = asked .before .before .before .before .before .before in (
+      record { fits = at .inv .4; going = going asked; whole = omega (arith, start .pre .1, at .inv .0) },
       omega (arith, roomy .if2 .left, at .inv .1, at .inv .3),
-      played .play-line .ensures .few,
-      omega (arith, c .before .before .before .before .buffer2 .given, at .inv .5),
+      omega (arith, at .inv .5),
     )
 
 add-read : tie.Need-add-read Inv-loop μ-loop
 add-read c =
-    let played = c .before .before .before .before .before .before .before .before .before .before in
-    let known = played .before .before .before .before .before .before in
+    let known = c .before .before .before .before .before .before .before .before .before .before .before .before .before in
     let cut = known .before .before in
-    let head = cut .before .before .before in
     let whole = rw (known .end .given .1) at (cut .next-line .ensures) in
-    omega (arith, whole .within, head .before .before .before .before .good .0)
+    omega (arith, whole .within, cut .before .before .before .before .before .before .before .good .0)
 
 loop-less : tie.Need-loop-less Inv-loop μ-loop
-unfolding next-run
 loop-less c =
-    let played = c .before .before .before .before .before .before .before .before .before .before in
-    let less = played .before .before .before .before .before .before .before .before .before in
-    let more = ap (λ (w : Whole). w .played) (played .play-line .ensures .next) in
-    omega (arith, more, less .if1 .taken)
+    let stepped = c .before .before .before .before .before .before in
+    let asked = stepped .before .before .before .before .before .before .before .before .before .before in
+    let at = asked .before .before .loop in
+    omega (
+      arith,
+      stepped-more (at .current) (at .area) (stepped .step .ensures),
+      task-lines (at .current) (at .area) (going asked),
+    )
 
 loop-again : tie.Need-loop-again Inv-loop μ-loop
 loop-again c =
-    let printed = c .before .before in
-    let played = printed .before .before .before .before .before .before .before .before in
-    let known = played .before .before .before .before .before .before in
-    let less = known .before .before .before in
-    let head = less .before .before in
-    let at = head .loop in
-    let start = head .before .before .before .before in
-    let whole = rw (known .end .given .1) at (known .before .before .next-line .ensures) in (
-      c .before .before .before .before .before .before .before .before .before .area .given ∙ at .inv .0,
-      c .before .out .given ∙ at .inv .1,
+    let stepped = c .before .before .before .before .before .before in
+    let known = stepped .before .before .before .before .before .before .before in
+    let asked = known .before .before .before in
+    let at = asked .before .before .loop in
+    let start = asked .before .before .before .before .before .before in
+    let whole = rw (known .end .given .1) at (known .before .before .next-line .ensures) in
+    let done = stepped .step .ensures in (
+      c .before .before .before .before .before .area .given ∙ at .inv .0,
+      c .before .before .before .out .given ∙ at .inv .1,
       omega (arith, whole .within),
-      omega (arith, printed .put-rows .ensures .0 .room, at .inv .1),
-      played .play-line .ensures .fits,
-      c .before .before .before .before .before .before .before .buffer2 .given,
-      progressed (run-of (start .args .run) (start .args .area .now)) (run-of (at .current) (at .area)) whole
-          (omega (arith, less .if1 .taken)) (played .play-line .ensures) (printed .put-rows .ensures .0) (at .inv .6),
+      omega (arith, done .written .room, at .inv .1),
+      done .fits,
+      c .before .buffer2 .given,
+      progressed (state-of (start .args .task) (start .args .area .now)) (state-of (at .current) (at .area)) whole
+          (going asked) done (at .inv .6),
     )
 
 same-length-5 : tie.Need-same-length-5 Inv-loop μ-loop
@@ -177,7 +173,7 @@ returns-3 c =
     let at = c .before .before .loop in
     record {
       output = at .inv .6;
-      stops = omega (arith, c .if1 .left);
+      stops = sym (c .before .goes-on .ensures (at .area)) ∙ c .if1 .left;
       read = at .inv .2;
       written = omega (arith, at .inv .1, at .inv .3);
       fits = at .inv .4;
@@ -190,6 +186,7 @@ play-lines-spec =
     Inv-loop
     μ-loop
     loop-holds
+    goes-on-requires
     next-line-requires
     enum-known-end
     enum-told
@@ -200,13 +197,11 @@ play-lines-spec =
     same-length-3
     same-length-4
     returns-2
-    sub-play-line
-    part-play-line-start
-    part-play-line-end
-    slice-aggregate-play-line
-    play-line-requires
-    slice-aggregate-put-rows
-    put-rows-requires
+    sub-step
+    part-step-start
+    part-step-end
+    slice-aggregate-step
+    step-requires
     add-read
     loop-less
     loop-again

@@ -1,36 +1,32 @@
 -- `play` stays within its slices and ends; what it holds of the input is what it may read behind, or play.
-use Prim.Native.Nat.{_≤_}
 use mathlib.Core.Path.{_≡_, refl, _∙_}
 use native.Mathlib.Omega.{arith}
 use native.Mathlib.Nat.{sub-zero}
 use lib.ListN.{length}
-use Rattle.turns.specs.Turned.{area-size}
 use Rattle.pieces.specs.Pieces.{Kept}
 use Rattle.pieces.proofs.Pieces.{kept-first, kept-within}
+use Rattle.reports.specs.Tasks.{Fits}
 use Rattle.stream.proofs.play.Statement.{statement}
 use Rattle.stream.proofs.play.Tie as tie
 
 abbrev Inv-loop : tie.InvT-loop
-Inv-loop from to size input₀ area₀ out₀ run₀ held₀ stop₀ turns₀ input area out run held stop turns =
+Inv-loop from to size input₀ area₀ out₀ task₀ held₀ stop₀ turns₀ input area out task held stop turns =
     (length input ≡ length input₀) × (length area ≡ length area₀) × (length out ≡ length out₀) × Kept stop held input
-    × (run .session .length ≤ area-size)
+    × Fits task
 
 abbrev μ-loop : tie.MeasureT-loop
-μ-loop from to size input₀ area₀ out₀ run₀ held₀ stop₀ turns₀ input area out run held stop turns = turns
-
-new-requires : tie.Need-new-requires Inv-loop μ-loop
-new-requires c κs = tt
+μ-loop from to size input₀ area₀ out₀ task₀ held₀ stop₀ turns₀ input area out task held stop turns = turns
 
 loop-holds : tie.Need-loop-holds Inv-loop μ-loop
 loop-holds c =
-    let input = c .before .before .before .before .args .input .now in
-    (refl, refl, refl, kept-first input, omega (arith, c .new .ensures .0))
+    let start = c .before .before .before in
+    (refl, refl, refl, kept-first (start .args .input .now), start .pre .1)
 
 next-text-requires : tie.Need-next-text-requires Inv-loop μ-loop
 next-text-requires c κs =
     let at = c .before .before in
-    let start = at .before .before .before .before .before in
-    (omega (arith, start .pre .1, at .loop .inv .0), at .loop .inv .3)
+    let start = at .before .before .before .before in
+    (omega (arith, start .pre .2, at .loop .inv .0), at .loop .inv .3)
 
 enum-known-got : tie.Need-enum-known-got Inv-loop μ-loop
 enum-known-got c = omega arith
@@ -52,10 +48,11 @@ close-requires : tie.Need-close-requires Inv-loop μ-loop
 close-requires c κs =
     let told = c .before .before .before .before .before .before .before in
     let at = told .before .before .before in
-    let start = at .before .before .before .before .before in (
+    let start = at .before .before .before .before in (
       rw sub-zero (told .next-text .ensures .over),
-      record { whole = omega (arith, start .pre .2, at .loop .inv .1); fits = at .loop .inv .4 },
-      omega (arith, start .pre .3, at .loop .inv .2),
+      at .loop .inv .4,
+      omega (arith, start .pre .3, at .loop .inv .1),
+      omega (arith, start .pre .4, at .loop .inv .2),
     )
 
 same-length : tie.Need-same-length Inv-loop μ-loop
@@ -83,9 +80,10 @@ feed-requires c κs =
     let got = c .before .before .before .before in
     let told = got .before .before .before .before in
     let at = told .before .before .before in
-    let start = at .before .before .before .before .before in (
+    let start = at .before .before .before .before in (
       told .next-text .ensures .within _ (got .got .given .1),
-      record { whole = omega (arith, start .pre .2, at .loop .inv .1); fits = at .loop .inv .4 },
+      at .loop .inv .4,
+      omega (arith, start .pre .3, at .loop .inv .1),
     )
 
 sub-write-all : tie.Need-sub-write-all Inv-loop μ-loop
@@ -161,7 +159,6 @@ play-spec =
     (tie.spec
     Inv-loop
     μ-loop
-    new-requires
     loop-holds
     next-text-requires
     enum-known-got

@@ -1,8 +1,9 @@
-//! `fuzz RSMRUN COUNT SEED` compares a program with the model on generated
-//! files and runs the ledger check, the forecast check and the port check on
-//! each. Half of the files go through a pipe, in random pieces. The script
-//! `tests/fuzz` calls it.
-use model::{check, forecast_check, generate, pieces, player, port_check, random::Random};
+//! `fuzz RSMRUN RSMPAGE COUNT SEED` compares the programs with the model on
+//! generated files and runs the ledger check, the forecast check, the port
+//! check and the page check on each. Half of the files go through a pipe, in
+//! random pieces. The script `tests/fuzz` calls it.
+use model::{check, forecast_check, generate, page, page_check, pieces, player, port_check};
+use model::{page::MOST_COMMITS, random::Random};
 use std::fs::{self, File};
 use std::io::{self, Read, Write};
 use std::path::Path;
@@ -16,18 +17,24 @@ const PATIENCE: Duration = Duration::from_secs(30);
 
 fn main() -> ExitCode {
     let arguments: Vec<String> = env::args().skip(1).collect();
-    let (program, count, seed): (&str, u64, u64) = match &arguments[..] {
-        [program, count, seed] => match (count.parse(), seed.parse()) {
-            (Ok(count), Ok(seed)) if count > 0 => (program, count, seed),
+    let (programs, count, seed): ([&str; 2], u64, u64) = match &arguments[..] {
+        [rsmrun, rsmpage, count, seed] => match (count.parse(), seed.parse()) {
+            (Ok(count), Ok(seed)) if count > 0 => ([rsmrun, rsmpage], count, seed),
             _ => return usage(),
         },
         _ => return usage(),
     };
     let folder = env::temp_dir().join(format!("rsm_fuzz_{}", std::process::id()));
-    match compare(program, count, seed, &folder) {
-        Ok(lines) => {
+    match compare(programs, count, seed, &folder) {
+        Ok(Played {
+            lines,
+            commits,
+            cut,
+        }) => {
             let _ = fs::remove_dir_all(&folder);
-            println!("{count} files, {lines} lines: no difference");
+            println!(
+                "{count} files, {lines} lines, {commits} commits, {cut} of them cut: no difference"
+            );
             ExitCode::SUCCESS
         }
         Err(difference) => {
@@ -38,32 +45,45 @@ fn main() -> ExitCode {
 }
 
 fn usage() -> ExitCode {
-    eprintln!("use: fuzz RSMRUN COUNT SEED, COUNT from 1");
+    eprintln!("use: fuzz RSMRUN RSMPAGE COUNT SEED, COUNT from 1");
     ExitCode::from(2)
 }
 
-/// The lines played, or the first difference.
-fn compare(program: &str, count: u64, seed: u64, folder: &Path) -> Result<u64, String> {
+/// What was played: lines, and the commits of the pages.
+struct Played {
+    lines: u64,
+    commits: u32,
+    cut: u32,
+}
+
+/// What was played, or the first difference.
+fn compare(programs: [&str; 2], count: u64, seed: u64, folder: &Path) -> Result<Played, String> {
     let failed = |error: io::Error| format!("{}: {error}", folder.display());
     fs::create_dir_all(folder).map_err(failed)?;
     let mut lines = 0;
     let mut forecasts_reached = forecast_check::reached();
     let mut ports_reached = port_check::reached();
+    let mut pages_reached = page_check::reached();
     for i in 0..count {
         let file_seed = seed.wrapping_mul(1_000_003).wrapping_add(i);
         let events = match i {
             // Once: more lines than the program may play, the last one cut.
             0 => too_many_lines(),
-            _ => generate::events(file_seed, Random::new(!file_seed).within(30, 400)),
+            // As many commits as a page has, and more: by a pipe and not.
+            1 => many_commits(MOST_COMMITS),
+            2 | 3 => many_commits(MOST_COMMITS + 1),
+            _ => generate::file(file_seed),
         };
         let pieces = match i % 2 {
             0 => None,
             _ => Some(pieces::choose(&mut Random::new(file_seed), events.len())),
         };
-        let expected = player::answers(&events);
+        let answers = player::answers(&events);
+        let expected = [answers.clone(), page::page(&events)];
         let ledger = check::file(&events);
         let forecasts = forecast_check::file(&events, file_seed, &mut forecasts_reached);
         let ports = port_check::file(&events, file_seed, &mut ports_reached);
+        let pages = page_check::file(&events, file_seed, &mut pages_reached);
         let keep = |name: &str, bytes: &[u8]| fs::write(folder.join(name), bytes).map_err(failed);
         let (given, lengths) = match &pieces {
             None => ("", String::new()),
@@ -72,24 +92,35 @@ fn compare(program: &str, count: u64, seed: u64, folder: &Path) -> Result<u64, S
         let kept = format!("file {i},{given} kept in {}", folder.display());
         keep("file.events", &events)?;
         keep("file.pieces", lengths.as_bytes())?;
-        let got = match pieces {
-            None => answers_of(program, Input::File(&folder.join("file.events"))),
-            Some(pieces) => answers_of(program, Input::Pipe(events.clone(), pieces)),
-        };
-        let got = got.map_err(|what| format!("{kept}\n{program} {what}"))?;
-        if got != expected {
-            keep("file.expected", &expected)?;
-            keep("file.got", &got)?;
-            return Err(format!(
-                "{kept}\n{}",
-                first_difference(&events, &expected, &got)
-            ));
+        for (program, expected) in programs.iter().zip(&expected) {
+            let input = match &pieces {
+                None => Input::File(&folder.join("file.events")),
+                Some(pieces) => Input::Pipe(events.clone(), pieces.clone()),
+            };
+            let got = output_of(program, input);
+            let got = got.map_err(|what| format!("{kept}\n{program} {what}"))?;
+            if got != *expected {
+                keep("file.expected", expected)?;
+                keep("file.got", &got)?;
+                let difference = first_difference(&events, &answers, expected, &got);
+                return Err(format!("{kept}\n{program} differs\n{difference}"));
+            }
         }
         lines += u64::from(ledger.map_err(|what| format!("{kept}\nledger: {what}"))?);
         forecasts.map_err(|what| format!("{kept}\nforecasts: {what}"))?;
         ports.map_err(|what| format!("{kept}\nports: {what}"))?;
+        pages.map_err(|what| format!("{kept}\npages: {what}"))?;
     }
-    Ok(lines)
+    let reached = |names: &[&str]| {
+        let counts = pages_reached.counts();
+        let named = counts.filter(|(name, _)| names.contains(name));
+        named.map(|(_, count)| count).sum()
+    };
+    Ok(Played {
+        lines,
+        commits: reached(&["decided: a start", "decided: an acknowledgement"]),
+        cut: reached(&["decided and cut"]),
+    })
 }
 
 /// 100,001 lines; the fault, line 99,999, is cut.
@@ -97,6 +128,20 @@ fn too_many_lines() -> Vec<u8> {
     let mut events = b"F,2,1,2,1\nW,0,0,07\n".to_vec();
     events.extend(b"U\nW,0,1,01\n".repeat(49_996));
     events.extend(b"U\nW,0,1,05\nW,1,0,06\nZ,1\nX,0\nU\nR,0,0,1\n");
+    events
+}
+
+/// So many commits, one in five cut, and lines after them.
+fn many_commits(count: usize) -> Vec<u8> {
+    let mut events = b"F,3,2,2,1\n".to_vec();
+    for i in 0..count {
+        events.extend_from_slice(match i % 5 {
+            0 => b"W,1,0,01\nZ,4\nC,1,A1\n".as_slice(),
+            1 => b"W,0,2,02\nR,2,2,1\nC,2,A2\nA,0,A0\n",
+            _ => b"C,0,A0\n",
+        });
+    }
+    events.extend_from_slice(b"W,0,0,07\nR,1,0,1\nF,1,1,1,0\nU\n");
     events
 }
 
@@ -109,7 +154,7 @@ enum Input<'a> {
 
 /// Plays a file by the program. Its input is written and its output read in
 /// threads, so that a program that does not end can be given up.
-fn answers_of(program: &str, input: Input) -> Result<Vec<u8>, String> {
+fn output_of(program: &str, input: Input) -> Result<Vec<u8>, String> {
     let failed = |error: io::Error| error.to_string();
     let stdin = match input {
         Input::File(name) => Stdio::from(File::open(name).map_err(failed)?),
@@ -171,30 +216,44 @@ fn until_asleep(process: u32) {
     }
 }
 
-/// The first answers that differ and the event line that they answer.
-fn first_difference(events: &[u8], expected: &[u8], got: &[u8]) -> String {
+/// The first lines that differ and the event line that they belong to.
+fn first_difference(events: &[u8], answers: &[u8], expected: &[u8], got: &[u8]) -> String {
+    let of_page = answers != expected;
     let mut expected_lines = expected.split_inclusive(|byte| *byte == b'\n');
     let mut got_lines = got.split_inclusive(|byte| *byte == b'\n');
-    loop {
+    for place in 0.. {
         let (expected, got) = (expected_lines.next(), got_lines.next());
         if expected == got && expected.is_some() {
             continue;
         }
-        let number = expected.or(got).and_then(line_number).unwrap_or(0);
-        let event = events
-            .split(|byte| *byte == b'\n')
-            .nth(number.max(1) - 1)
-            .unwrap_or(&[]);
+        let answer = match of_page {
+            true => decisions(answers).nth(place),
+            false => expected.or(got),
+        };
+        let event = match answer.and_then(line_number) {
+            None => "no event line".into(),
+            Some(number) => {
+                let mut lines = events.split(|byte| *byte == b'\n');
+                let line = lines.nth(number.max(1) - 1).unwrap_or(&[]);
+                format!("line {number}: {}", line.escape_ascii())
+            }
+        };
         let show = |line: Option<&[u8]>| {
             line.map_or("(nothing)".into(), |line| line.escape_ascii().to_string())
         };
         return format!(
-            "line {number}: {}\nexpected {}\ngot      {}",
-            event.escape_ascii(),
+            "{event}\nexpected {}\ngot      {}",
             show(expected),
             show(got)
         );
     }
+    String::new()
+}
+
+/// The answers that say "decided", in which the page's lines have their order.
+fn decisions(answers: &[u8]) -> impl Iterator<Item = &[u8]> {
+    let lines = answers.split(|byte| *byte == b'\n');
+    lines.filter(|line| line.split(|byte| *byte == b',').nth(3) == Some(b"1"))
 }
 
 fn line_number(answer: &[u8]) -> Option<usize> {

@@ -1,14 +1,15 @@
 //! `replay_files FOLDER` writes what the gate's program `replay` needs:
-//! data/NAME.events and data/NAME.answers, args and stdout.
+//! data/NAME.events, data/NAME.answers and data/NAME.page, args and stdout.
 //! `replay_files --table` prints the table of the README, `replay_files
-//! --run` the input of the gate's own run of `rsmrun`.
-use model::{player, replay};
+//! --run` the input of the gate's own run of `rsmrun`, `replay_files
+//! --page-run` that of `rsmpage`.
+use model::{page, player, replay};
 use std::io::{self, Write};
 use std::{env, fs, path::Path};
 
 fn main() -> io::Result<()> {
     let Some(place) = env::args().nth(1) else {
-        eprintln!("use: replay_files FOLDER, --table or --run");
+        eprintln!("use: replay_files FOLDER, --table, --run or --page-run");
         std::process::exit(2);
     };
     if place == "--table" {
@@ -21,6 +22,9 @@ fn main() -> io::Result<()> {
     if place == "--run" {
         return io::stdout().write_all(&replay::long_run());
     }
+    if place == "--page-run" {
+        return io::stdout().write_all(&replay::page_run());
+    }
     let folder = Path::new(&place);
     let data = folder.join("data");
     fs::create_dir_all(&data)?;
@@ -28,6 +32,8 @@ fn main() -> io::Result<()> {
         fs::write(data.join(format!("{}.events", file.name)), &file.events)?;
         let answers = player::answers(&file.events);
         fs::write(data.join(format!("{}.answers", file.name)), answers)?;
+        let page = page::page(&file.events);
+        fs::write(data.join(format!("{}.page", file.name)), page)?;
     }
     fs::write(folder.join("args"), replay::arguments())?;
     fs::write(folder.join("stdout"), replay::report())

@@ -1,0 +1,4 @@
+pub mod Saving
+pub mod Columns
+pub mod Page
+pub mod Claims

@@ -1,0 +1,38 @@
+-- The programs that play event lines, as one: each has a step of its own over the same runs.
+use Prim.Native.Nat.{ℕ}
+use mathlib.Core.Path.{_≡_}
+use mathlib.Core.Bool.{Bool}
+use mathlib.Core.List.{List}
+use lib.Dec.{ltb}
+use Rattle.text.specs.Whole.{Line, Step, Goes, Ends, Program, output-by, Run, most-lines, rsmrun}
+use Rattle.page.specs.Page.{Page, page-goes, rsmpage}
+
+-- a state of `rsmrun`, or one of `rsmpage`
+pub data State : Type 0 where
+  Printing : Run → State
+  Paging : Page → State
+
+unfoldable pub lifted : {A : Type 0} → (A → State) → Step A → Step State
+lifted f (Goes text next) = Goes text (f next)
+lifted f Ends = Ends
+
+unfoldable pub report-step : State → Line → Step State
+report-step (Printing r) l = lifted Printing (rsmrun .step r l)
+report-step (Paging p) l = lifted Paging (rsmpage .step p l)
+
+unfoldable pub report-close : State → List ℕ
+report-close (Printing r) = rsmrun .close r
+report-close (Paging p) = rsmpage .close p
+
+unfoldable pub reporting : Program State
+reporting = record { step = report-step; close = report-close }
+
+-- its output is that of the program whose state it is
+pub record Each-its-own : Type 0 where
+  pub rows : (r : Run) (ls : List Line) → output-by reporting (Printing r) ls ≡ output-by rsmrun r ls
+  pub page : (p : Page) (ls : List Line) → output-by reporting (Paging p) ls ≡ output-by rsmpage p ls
+
+-- whether a next line is played
+unfoldable pub goes : State → Bool
+goes (Printing r) = ltb (r .played) most-lines
+goes (Paging p) = page-goes p

@@ -1,0 +1,173 @@
+// What a program prints of the lines that it plays: their rows, as `rsmrun` does, or a page, as `rsmpage` does. A line is
+// played in one way, whatever is printed of it.
+use events::take_apart;
+use page::Decided;
+use page::Totals;
+use printing::put_rows;
+use runner::MOST;
+use runner::Played;
+use runner::Run;
+use runner::play_event;
+use saving::decided_by;
+use sheet::MOST_COMMITS;
+use sheet::add;
+use sheet::no_totals;
+use sheet::put_commit;
+use sheet::put_total;
+use text::Parsed;
+use turns::Session;
+ghost use mathlib.Core.Path.{_≡_};
+ghost use mathlib.Core.Bool.{true};
+ghost use mathlib.Core.List.{List, []};
+ghost use Prim.Native.Nat.{ℕ, _+_, _≤_, _<_};
+ghost use lib.ListN.{length};
+ghost use Rattle.digits.specs.Append.{Appends};
+ghost use Rattle.text.specs.Events.{counted, meant, taken};
+ghost use Rattle.text.specs.Whole.{Run as Whole, start};
+ghost use Rattle.page.specs.Page.{first-page};
+ghost use Rattle.sheet.specs.Sums.{Small};
+ghost use Rattle.turns.specs.Turned.{player-of};
+ghost use Rattle.reports.specs.Reports.{Printing, Paging, goes, report-close};
+ghost use Rattle.reports.specs.Tasks.{by-report, state-of, Fits, Able, Stepped-on};
+ghost use Rattle.reports.specs.Tasks.{Looked, Rows-printed, Amounts-fit, Decided-printed};
+
+// The rows of each line, or a line of the page for each decided commit.
+pub enum Report {
+    Rows,
+    Page(Totals),
+}
+
+// A run, and what is printed of it.
+pub struct Task {
+    pub run: Run,
+    pub report: Report,
+}
+
+// The task after a line, and where its text ends in the output.
+pub struct Stepped {
+    pub task: Task,
+    pub written: usize,
+}
+
+impl Task {
+    // `rsmrun` before its first line.
+    pub fn rows() -> Task
+        ensures { λ r. ⌜ Fits r × (state-of r [] ≡ Printing start) ⌝ }
+    {
+        let run = Run::new();
+        let report = Report::Rows;
+        Task { run, report }
+    }
+
+    // `rsmpage` before its first line.
+    pub fn page() -> Task
+        ensures { λ r. ⌜ Fits r × (state-of r [] ≡ Paging first-page) ⌝ }
+    {
+        let run = Run::new();
+        let totals = no_totals();
+        let report = Report::Page(totals);
+        Task { run, report }
+    }
+
+    // Whether a next line is played.
+    pub fn goes_on(self) -> bool
+        ensures { λ r. ⌜ ((area : List ℕ) → r ≡ goes (state-of self area)) ⌝ }
+    {
+        if self.run.played >= MOST {
+            return false;
+        }
+        let report = self.report;
+        match report {
+            Report::Rows => true,
+            Report::Page(totals) => totals.commits <= MOST_COMMITS,
+        }
+    }
+}
+
+// Before a line is played: the commit that it will decide, if a page is printed.
+fn look(report: Report, area: &[u8], session: Session, line: Parsed, buffer: &[u8]) -> Decided
+    requires { ⌜ (session .length ≤ length (now area)) × (counted line ≤ length (now buffer)) ⌝ }
+    ensures { λ r. ⌜ Looked report (player-of session (now (area .entry))) (meant line (now (buffer .entry))) r ⌝ }
+{
+    let Report::Page(_) = report else {
+        return Decided::Nothing;
+    };
+    let n = session.length;
+    let state = session.state;
+    decided_by(&area[0..n], state, session.k, line, buffer)
+}
+
+// The rows of a line.
+fn print_rows(played: Played, out: &mut [u8], at: usize, buffer: &[u8]) -> Stepped
+    requires { ⌜ (at + 320 ≤ length (now out)) × (played .rows .first .count ≤ 64) × (64 ≤ length (now buffer)) ⌝ }
+    ensures { λ r. ⌜ Rows-printed played (now (buffer .entry)) at (now (out .entry)) r (now (out .exit)) ⌝ }
+{
+    let run = played.run;
+    let rows = played.rows;
+    let written = put_rows(out, at, run.played, rows, buffer);
+    let report = Report::Rows;
+    let task = Task { run, report };
+    Stepped { task, written }
+}
+
+// The commit that a line decided, if it did, is counted, and printed unless that is answered 18; the run is the one after
+// the line.
+fn print_decided(run: Run, t: Totals, d: Decided, out: &mut [u8], at: usize) -> Stepped
+    requires { ⌜ Small t × (t .commits ≤ 9999) × Amounts-fit d × (at + 320 ≤ length (now out)) ⌝ }
+    ensures { λ r. ⌜ Decided-printed run t d at (now (out .entry)) r (now (out .exit)) ⌝ }
+{
+    let Decided::Commit(c) = d else {
+        let report = Report::Page(t);
+        let task = Task { run, report };
+        return Stepped { task, written: at };
+    };
+    let added = add(t, c);
+    let totals = added.totals;
+    let report = Report::Page(totals);
+    let task = Task { run, report };
+    if added.status != 0 {
+        return Stepped { task, written: at };
+    }
+    let written = put_commit(out, at, totals.commits, c);
+    Stepped { task, written }
+}
+
+// Plays a line and prints what is to be printed of it, from a place of the output on.
+pub fn step(
+    line: &[u8],
+    area: &mut [u8],
+    task: Task,
+    out: &mut [u8],
+    at: usize,
+    buffer: &mut [u8],
+) -> Stepped
+    requires { ⌜ Able task (now area) × (at + 320 ≤ length (now out)) × (80 ≤ length (now buffer)) ⌝ }
+    ensures { λ r. ⌜ Stepped-on (state-of task (now (area .entry))) (taken (now (line .entry))) at
+        (now (out .entry)) r (now (area .exit)) (now (out .exit)) ⌝ }
+{
+    let parsed = take_apart(line, buffer);
+    let run = task.run;
+    let report = task.report;
+    let session = run.session;
+    let d = look(report, area, session, parsed, buffer);
+    let played = play_event(parsed, area, run, buffer);
+    match report {
+        Report::Rows => print_rows(played, out, at, buffer),
+        Report::Page(t) => {
+            let next = played.run;
+            print_decided(next, t, d, out, at)
+        }
+    }
+}
+
+// What is printed behind the last line.
+pub fn close(report: Report, out: &mut [u8], at: usize) -> usize
+    requires { ⌜ at + 32 ≤ length (now out) ⌝ }
+    ensures { λ r. ⌜ ((w : Whole) → Appends (report-close (by-report report w)) at (now (out .entry)) r
+        (now (out .exit))) ⌝ }
+{
+    match report {
+        Report::Rows => at,
+        Report::Page(totals) => put_total(out, at, totals),
+    }
+}

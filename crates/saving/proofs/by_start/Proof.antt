@@ -1,0 +1,79 @@
+-- `by_start` meets its contract: what its tests refuse decides nothing, else its group does, if it is complete.
+use borrow.Author.Needs.{needs}
+use mathlib.Core.Path.{_≡_, refl, _∙_, ap}
+use native.Mathlib.Omega.{arith}
+use denote.Ref.{now}
+use lib.ListN.{length}
+use Rattle.protocol.specs.Calls.{Start, refusal-at}
+use Rattle.entry.specs.Tested.{entry-says}
+use Rattle.entry.proofs.Laws.{small, if-taken, if-refused}
+use Rattle.commit.specs.Begin.{Offered}
+use Rattle.commit.proofs.Laws.{started}
+use Rattle.page.proofs.Decisions.{start-gives}
+use Rattle.saving.proofs.Laws.{refused-nothing, completed-decides}
+use Rattle.saving.proofs.by_start.Statement.{statement}
+use Rattle.saving.proofs.by_start.Tie as tie
+
+start-entry-requires : tie.Need-start-entry-requires
+start-entry-requires c κs = search needs
+
+enum-known-entry : tie.Need-enum-known-entry
+enum-known-entry c = search needs
+
+enum-told : tie.Need-enum-told
+enum-told c = search needs
+
+returns : tie.Need-returns
+returns c =
+    let tested = c .before .before in
+    let args = tested .before .before .before .args in
+    let both = if-refused (tested .start-entry .ensures) (ap entry-says (c .enum-told .given .1)) refl in
+    refused-nothing (now (args .image)) (args .state) (args .k) (Start (args .board) (now (args .context)))
+    (both .0) (both .1)
+
+-- what is known once the tests are passed
+known : (c : tie.After-entry) →
+    let args = c .before .before .before .before .before .args in
+    (refusal-at (now (args .image)) (args .state) (Start (args .board) (now (args .context))) ≡ 0)
+    × Offered (now (args .image)) (args .state) (args .board) (length (now (args .context))) (c .entry .given .0 .0)
+known c = if-taken (c .before .before .start-entry .ensures) (c .entry .given .1)
+
+cast-i : tie.Need-cast-i
+cast-i c = omega (arith, small (known (c .before) .1 .entry))
+
+commit-closure-requires : tie.Need-commit-closure-requires
+commit-closure-requires c κs = small (known (c .before .before) .1 .entry)
+
+start-requires : tie.Need-start-requires
+start-requires c κs = small (known (c .before .before .before) .1 .entry)
+
+completed-requires : tie.Need-completed-requires
+completed-requires c κs =
+    let shaped = known (c .before .before .before .before) .1 .entry .shaped in
+    (shaped .allowed-shape, shaped .long)
+
+returns-2 : tie.Need-returns-2
+returns-2 c =
+    let next = c .before in
+    let grouped = next .before in
+    let opened = grouped .before .before .before in
+    let args = opened .before .before .before .before .before .args in
+    let passed = known opened in
+    c .completed .ensures
+    ∙ completed-decides (now (args .image)) (args .state) (args .k) (start-gives _ _ _ _ (passed .0))
+    (started (args .state) (args .board) (next .start .ensures) (grouped .commit-closure .ensures .members))
+    (passed .1 .entry .shaped .shape)
+
+pub by-start-spec : {M : Type 1} → statement M
+by-start-spec =
+    tie.close
+    (tie.spec
+    start-entry-requires
+    enum-known-entry
+    enum-told
+    returns
+    cast-i
+    commit-closure-requires
+    start-requires
+    completed-requires
+    returns-2)
