@@ -36,7 +36,8 @@ pub progressed : (w v : State) {piece : List ℕ} {read end written : ℕ} {r : 
 progressed w v {piece} {read} {end} {written} {r} {out} {area} {x} cut going m so =
     let line = take (end - read) (drop read piece) in
     subst (λ (u : State). Output reporting w piece u (end + 1) (take (r .written) x)) (sym (m .next))
-    (subst (λ (t : List ℕ). Output reporting w piece (state-after v (taken line)) (end + 1) t) (sym (take-x (m .written)))
+    (subst (λ (t : List ℕ). Output reporting w piece (state-after v (taken line)) (end + 1) t)
+    (sym (take-x (m .written)))
     (line-more reporting w v (take written out) cut (goes-steps v line going) so))
 
 -- ---- what is kept
@@ -76,7 +77,8 @@ still Limit v written out k u = u
 pub fed : (w : State) (input : List ℕ) {end : ℕ} {p : Progress} {area out after : List ℕ} {held : ℕ} →
     length after ≡ length input → end ≤ length input → Progresses w (take (end - 0) input) p area out →
     Keeps (p .stop) (drop (p .read) (take end input)) held after →
-    Feeds w (take end input) (record { task = p .task; held = held; written = p .written; stop = p .stop }) after area out
+    Feeds w (take end input) (record { task = p .task; held = held; written = p .written; stop = p .stop }) after area
+    out
 fed w input {end} {p} {area} {out} {after} {held} long l played k =
     let done : Progresses w (take end input) p area out = rw sub-zero at played in
     let v = state-of (p .task) area in

@@ -112,7 +112,8 @@ pub commits-right : Commits-right
 commits-right p request c d =
     let s = shape-of (p .image) in
     let call = perform (p .image) (p .state) request in
-    let by-then = view s (call (s .context + 3) .image) in (
-      undecided-before (decides p request d),
-      subst (Decided-so s by-then (call (p .k) .reply .answer)) (saves p request d) (decided-right (decides p request d)),
+    let by-then = view s (call (s .context + 3) .image) in
+    let how = decides p request d in (
+      undecided-before how,
+      subst (Decided-so s by-then (call (p .k) .reply .answer)) (saves p request d) (decided-right how),
     )

@@ -114,8 +114,8 @@ fn all_played(ended: Ended) -> bool {
     }
 }
 
-// Plays from one open file to another, on an area that holds anything. The input is no longer than what may be kept and a
-// piece; the output is small, so that many pieces take several turns.
+// Plays from one open file to another, on an area that holds anything. The input is no longer than what may be kept and
+// a piece; the output is small, so that many pieces take several turns.
 fn play_files(size: usize, task: Task, from: i32, to: i32) -> Ended
     requires { ⌜ (1 ≤ size) × (size ≤ 8192) × Fits task ⌝ }
 {

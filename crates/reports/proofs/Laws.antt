@@ -1,18 +1,18 @@
 -- The programs as one; what they make of a line that they play; commits counted and printed.
 use Prim.Native.Nat.{ℕ, suc, _+_, _≤_, _<_}
 use mathlib.Core.Path.{_≡_, refl, sym, _∙_, ap, subst}
-use mathlib.Core.Bool.{Bool, true, false, _&&_, cond}
+use mathlib.Core.Bool.{true, false}
 use mathlib.Core.List.{List, [], _∷_, _++_}
 use mathlib.Core.Logic.{_≢_}
 use native.Mathlib.Omega.{arith}
-use lib.Dec.{eqb, ltb, leb}
+use lib.Dec.{ltb, leb}
 use lib.ListN.{length}
 use borrow.Author.Tests.{lt-ltb, le-ltb, ltb-true, leb-true, eq-eqb, ne-eqb}
-use Rattle.boards.proofs.Basics.{and-true, if-true, if-false, false-and}
+use Rattle.boards.proofs.Basics.{and-true, false-and}
 use Rattle.text.specs.Events.{Event, taken}
 use Rattle.text.specs.Turns.{play}
-use Rattle.text.specs.Whole.{Line, Step, Goes, Ends, Program, continued, output-by, Run as Whole, most-lines, line-rows, line-text}
-use Rattle.text.specs.Whole.{next-run, line-step, rsmrun}
+use Rattle.text.specs.Whole.{Line, Step, Goes, Ends, Program, continued, output-by, Run as Whole, most-lines, line-rows}
+use Rattle.text.specs.Whole.{line-text, next-run, line-step, rsmrun}
 use Rattle.digits.specs.Append.{Appends}
 use Rattle.digits.proofs.Laws.{appends-none}
 use Rattle.page.specs.Saving.{decided-by}
@@ -96,7 +96,8 @@ going-commits t w e =
 -- its step, and that of one that does not
 pub goes-steps : (v : State) (l : Line) → goes v ≡ true
     → reporting .step v l ≡ Goes (event-text v (taken l)) (state-after v (taken l))
-unfolding reporting report-step lifted goes event-text state-after rsmrun line-step line-text line-rows next-run rsmpage page-step
+unfolding reporting report-step lifted goes event-text state-after
+    rsmrun line-step line-text line-rows next-run rsmpage page-step
 goes-steps (Printing r) l e = rw e
 goes-steps (Paging p) l e = rw e
 
@@ -168,12 +169,13 @@ module _ (w : Whole) (e : Event) {at : ℕ} {out area x buffer : List ℕ} {p : 
           fits = rw (printed .task) (record { image = played .fits; report = tt });
         }
 
-    pub page-stepped : {t : Totals} {d : Decided} → d ≡ decided-by (w .player) e → Decided-printed (p .run) t d at out r x
+    pub page-stepped : {t : Totals} {d : Decided} → d ≡ decided-by (w .player) e
+        → Decided-printed (p .run) t d at out r x
         → Stepped-on (Paging (record { run = w; totals = t })) e at out r area x
     unfolding event-text state-after
     page-stepped {t} same printed =
-        let to-state : Whole → State = λ v. Paging (record { run = v; totals = totals-after t (decided-by (w .player) e) })
-        in
+        let d = decided-by (w .player) e in
+        let to-state : Whole → State = λ v. Paging (record { run = v; totals = totals-after t d }) in
         record {
           written = rw same at (printed .written);
           next = rw (printed .task, same) (ap to-state (played .next));

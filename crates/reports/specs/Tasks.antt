@@ -83,11 +83,11 @@ Looked report.Rows p e d = Unit {0}
 Looked (report.Page t) p e d = d ≡ decided-by p e
 
 -- its rows are printed, under the number of lines that were played
-pub record Rows-printed (p : Played) (buffer : List ℕ) (at : ℕ) (before : List ℕ) (r : Stepped) (after : List ℕ) : Type 0
-  where
-    pub written : Appends (rows-text (p .run .played) (rows-meant (p .rows) buffer)) at before (r .written) after
-    pub task : r .task ≡ record { run = p .run; report = report.Rows }
-    pub most : r .written ≤ at + 320
+pub record Rows-printed (p : Played) (buffer : List ℕ) (at : ℕ) (before : List ℕ) (r : Stepped) (after : List ℕ)
+    : Type 0 where
+  pub written : Appends (rows-text (p .run .played) (rows-meant (p .rows) buffer)) at before (r .written) after
+  pub task : r .task ≡ record { run = p .run; report = report.Rows }
+  pub most : r .written ≤ at + 320
 
 -- a decided commit has as many blocks and bytes as there can be at most
 abbrev pub Amounts-fit : Decided → Type 0

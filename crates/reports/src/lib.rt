@@ -1,5 +1,5 @@
-// What a program prints of the lines that it plays: their rows, as `rsmrun` does, or a page, as `rsmpage` does. A line is
-// played in one way, whatever is printed of it.
+// What a program prints of the lines that it plays: their rows, as `rsmrun` does, or a page, as `rsmpage` does. A line
+// is played in one way, whatever is printed of it.
 use events::take_apart;
 use page::Decided;
 use page::Totals;
@@ -110,8 +110,8 @@ fn print_rows(played: Played, out: &mut [u8], at: usize, buffer: &[u8]) -> Stepp
     Stepped { task, written }
 }
 
-// The commit that a line decided, if it did, is counted, and printed unless that is answered 18; the run is the one after
-// the line.
+// The commit that a line decided, if it did, is counted, and printed unless that is answered 18; the run is the one
+// after the line.
 fn print_decided(run: Run, t: Totals, d: Decided, out: &mut [u8], at: usize) -> Stepped
     requires { ⌜ Small t × (t .commits ≤ 9999) × Amounts-fit d × (at + 320 ≤ length (now out)) ⌝ }
     ensures { λ r. ⌜ Decided-printed run t d at (now (out .entry)) r (now (out .exit)) ⌝ }

@@ -1,10 +1,9 @@
 -- What a call decides, by what the code looks at before it.
 use Prim.Native.Nat.{ℕ, _+_, _*_, _≤_, _<_}
 use mathlib.Core.Path.{_≡_, refl, sym, _∙_, ap, ap₂}
-use mathlib.Core.Bool.{Bool, true, false, _&&_, cond}
+use mathlib.Core.Bool.{Bool, true, false, cond}
 use mathlib.Core.List.{List, [], _∷_}
 use mathlib.Core.Logic.{_≢_}
-use native.Mathlib.Omega.{arith}
 use lib.Dec.{eqb, leb}
 use lib.ListN.{length}
 use types.Run.{OneOf, miss}
@@ -14,7 +13,7 @@ use Rattle.boards.proofs.Basics.{if-true, if-false, true-and, false-and, and-fa
 use Rattle.volatile.specs.Volatile.{commit-of, acknowledge}
 use Rattle.volatile.specs.declared.Record.{Record}
 use Rattle.protocol.specs.Image.{Memory, allowed, shape-of, view}
-use Rattle.protocol.specs.Calls.{Request, acknowledging, plan, refusal-at}
+use Rattle.protocol.specs.Calls.{Request, acknowledging, refusal-at}
 use Rattle.protocol.specs.declared.Shape.{Shape}
 use Rattle.costs.specs.Forecasts.{boards-of, tagged-blocks}
 use Rattle.text.specs.Events.{Make, room, meant}
@@ -23,7 +22,6 @@ use Rattle.text.specs.declared.Parsed.{Parsed}
 use Rattle.text.specs.declared.Parsed.the-variants as parsed
 use Rattle.text.proofs.Parsed.{the-type as parsed-type}
 use Rattle.page.specs.Saving.{saved, decided-by}
-use Rattle.page.specs.declared.Decided.{Decided}
 use Rattle.page.specs.declared.Decided.the-variants.{Nothing, Commit}
 use Rattle.page.proofs.Decisions.{says-decided, refused-undecided, read-undecided, write-undecided, fault-undecided}
 use Rattle.page.proofs.Decisions.{power-up-undecided, Gives, gives-decides}

@@ -1,5 +1,5 @@
-// Before a line is played: the commit that it will decide, if it decides one, and what that saves (document 02, Req 05).
-// Afterwards the tags are gone and, if the call was cut, the record too.
+// Before a line is played: the commit that it will decide, if it decides one, and what that saves (document 02, Req
+// 05). Afterwards the tags are gone and, if the call was cut, the record too.
 use commit::acknowledge_entry;
 use commit::start_entry;
 use entry::Entry;

@@ -109,8 +109,8 @@ fn tell(ended: Ended, input: &[u8], output: &[u8]) {
 }
 
 // A whole program: plays standard input to standard output; `input` and `output` name these in a message. The input has
-// room for 161 characters that are kept and 4,096 that are read; the output for what most pieces answer, so that few are
-// played in two turns.
+// room for 161 characters that are kept and 4,096 that are read; the output for what most pieces answer, so that few
+// are played in two turns.
 pub fn run(first: Task, input: &[u8], output: &[u8])
     requires { ⌜ Fits first ⌝ }
 {

@@ -37,8 +37,10 @@ returns c =
     let asked = c .before .before in
     let tested = asked .before .before in
     let args = tested .before .before .before .before .args in
-    let both = if-refused (tested .acknowledge-entry .ensures) (ap entry-says (asked .enum-told .given .1)) (c .before .number .ensures) in
-    turned (args .state) (Acknowledge (args .board) (now (args .context))) (both .0) (both .1) refl (c .refusal .ensures)
+    let q = ap entry-says (asked .enum-told .given .1) in
+    let both = if-refused (tested .acknowledge-entry .ensures) q (c .before .number .ensures) in
+    turned (args .state) (Acknowledge (args .board) (now (args .context))) (both .0) (both .1) refl
+    (c .refusal .ensures)
 
 -- what is known once the tests are passed
 known : (c : tie.After-entry) →

@@ -30,7 +30,8 @@ returns : tie.Need-returns
 unfolding refusals entry-tests acknowledge-tests
 returns c =
     let q = ap entry-says (c .enum-told .given .1) in
-    let stop = refused-first (begin-tests _ _ _ _) _ (c .before .before .begin .ensures) q (sym (ap refusal-number q)) in
+    let begun = c .before .before .begin .ensures in
+    let stop = refused-first (begin-tests _ _ _ _) _ begun q (sym (ap refusal-number q)) in
     subst (Tested _ _) (sym q) (refused (stop .0) (stop .1))
 
 -- what is known once the beginning is passed

@@ -37,7 +37,8 @@ returns c =
     let asked = c .before .before in
     let tested = asked .before .before in
     let args = tested .before .before .before .before .args in
-    let both = if-refused (tested .start-entry .ensures) (ap entry-says (asked .enum-told .given .1)) (c .before .number .ensures) in
+    let q = ap entry-says (asked .enum-told .given .1) in
+    let both = if-refused (tested .start-entry .ensures) q (c .before .number .ensures) in
     turned (args .state) (Start (args .board) (now (args .context))) (both .0) (both .1) refl (c .refusal .ensures)
 
 -- what is known once the tests are passed

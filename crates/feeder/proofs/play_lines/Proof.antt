@@ -127,7 +127,8 @@ step-requires c κs =
 
 add-read : tie.Need-add-read Inv-loop μ-loop
 add-read c =
-    let known = c .before .before .before .before .before .before .before .before .before .before .before .before .before in
+    let stepped = c .before .before .before .before .before .before in
+    let known = stepped .before .before .before .before .before .before .before in
     let cut = known .before .before in
     let whole = rw (known .end .given .1) at (cut .next-line .ensures) in
     omega (arith, whole .within, cut .before .before .before .before .before .before .before .good .0)

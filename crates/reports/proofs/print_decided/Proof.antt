@@ -3,7 +3,6 @@ use borrow.Author.Needs.{needs}
 use mathlib.Core.Path.{sym, _∙_}
 use native.Mathlib.Omega.{arith}
 use denote.Ref.{now}
-use Rattle.reports.specs.Tasks.{Amounts-fit}
 use Rattle.reports.proofs.Laws.{none-printed, not-printed, commit-printed}
 use Rattle.reports.proofs.print_decided.Statement.{statement}
 use Rattle.reports.proofs.print_decided.Tie as tie

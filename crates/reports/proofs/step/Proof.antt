@@ -45,7 +45,8 @@ print-decided-requires : tie.Need-print-decided-requires
 print-decided-requires c κs =
     let told = c .before .before .before in
     let looked = told .before .before .before .before .before .before .before .before .before in
-    let start = looked .before .before .before .before .before .before .before .before .before .before .before .before .before in
+    let cleared = looked .before .before .before .before .before .before in
+    let start = cleared .before .before .before .before .before .before .before in
     let able = start .pre .0 in
     let w = run-of (start .args .task .run) (start .args .area .now) in
     let same = rw (told .report .given .1) at (looked .look .ensures) in (
@@ -64,7 +65,9 @@ same-length-2 c = search needs
 same-length-3 : tie.Need-same-length-3
 same-length-3 c =
     let after = c .before .before .before .before .before .before .before .before in
-    after .buffer2 .given ∙ after .before .before .before .before .before .before .before .before .before .before .before .before .buffer .given
+    let played = after .before .before .before in
+    let cleared = played .before .before .before .before .before .before .before .before .before in
+    after .buffer2 .given ∙ cleared .buffer .given
 
 returns : tie.Need-returns
 returns c =
@@ -86,7 +89,9 @@ same-length-5 c = search needs
 same-length-6 : tie.Need-same-length-6
 same-length-6 c =
     let after = c .before .before .before .before .before .before .before .before .before in
-    after .buffer2 .given ∙ after .before .before .before .before .before .before .before .before .before .before .before .before .buffer .given
+    let played = after .before .before .before in
+    let cleared = played .before .before .before .before .before .before .before .before .before in
+    after .buffer2 .given ∙ cleared .buffer .given
 
 returns-2 : tie.Need-returns-2
 returns-2 c =

@@ -29,7 +29,10 @@ returns-2 c =
     let args = c .before .before .before .before .before .before .args in
     let w = state-of (args .task) (args .area .now) in
     let over = sym (c .before .goes-on .ensures (args .area .now)) ∙ not-true _ (c .if2 .taken) in
-    record { output = exhausted reporting w (λ l. ends-steps w l over) (lines (now (args .rest))); written = omega arith }
+    record {
+      output = exhausted reporting w (λ l. ends-steps w l over) (lines (now (args .rest)));
+      written = omega arith;
+    }
 
 slice-aggregate-step : tie.Need-slice-aggregate-step
 slice-aggregate-step c = search needs

@@ -18,7 +18,8 @@ play-last-requires c κs =
     let told = c .before .before in
     let start = told .before .before .before .before .before in
     let rest = now (start .args .rest) in
-    (subst (λ got. Over got rest) (told .enum-told2 .given .1) (start .pre .0), start .pre .1, start .pre .2, start .pre .3)
+    let over = subst (λ got. Over got rest) (told .enum-told2 .given .1) (start .pre .0) in
+    (over, start .pre .1, start .pre .2, start .pre .3)
 
 enum-told-3 : tie.Need-enum-told-3
 enum-told-3 c = omega arith

@@ -1,6 +1,6 @@
 -- `completed` meets its contract.
 use borrow.Author.Needs.{needs}
-use mathlib.Core.Path.{_∙_, ap, sym}
+use mathlib.Core.Path.{_∙_, ap}
 use native.Mathlib.Omega.{arith}
 use Rattle.layout.proofs.Laws.{bounded}
 use Rattle.page.specs.declared.Decided.the-variants.{Commit}

@@ -1,7 +1,7 @@
 -- `saved` meets its contract.
 use borrow.Author.Needs.{needs}
-use Prim.Native.Nat.{_+_, _*_}
-use mathlib.Core.Path.{_≡_, _∙_, ap, ap₂}
+use Prim.Native.Nat.{ℕ, _+_, _*_}
+use mathlib.Core.Path.{ap₂}
 use native.Mathlib.Omega.{arith}
 use Rattle.protocol.specs.Image.{view}
 use Rattle.page.specs.Saving.{saved}
@@ -45,7 +45,9 @@ unfolding saved
 returns c =
     let start = c .before .before .before .before .before in
     let args = start .args in
-    ap₂ (λ m n. let whole : Saved = record { members = args .g; blocks = m; bytes = m * args .s .size + n * args .s .context } in whole)
+    let of-counts : ℕ → ℕ → Saved =
+    λ m n. record { members = args .g; blocks = m; bytes = m * args .s .size + n * args .s .context } in
+    ap₂ of-counts
     (c .before .before .before .tagged-count .ensures) (c .before .before .member-count .ensures)
 
 pub saved-spec : {M : Type 1} → statement M

@@ -64,7 +64,9 @@ put-requires t c κs =
 
 same-length : (t : ℕ) → lts.Need-same-length
     (below t, leads.Post, digit.Asked, digit.Learnt, put.Asked, put.Learnt) (at-measure t) leads.Post
-same-length t c = c .before .before .put .kept .0 ∙ c .before .before .before .before .before .before .before .put-leading .kept .0
+same-length t c =
+    let last = c .before .before in
+    last .put .kept .0 ∙ last .before .before .before .before .before .put-leading .kept .0
 
 returns-2 : (t : ℕ) → lts.Need-returns-2
     (below t, leads.Post, digit.Asked, digit.Learnt, put.Asked, put.Learnt) (at-measure t) leads.Post

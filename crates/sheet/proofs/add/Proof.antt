@@ -16,8 +16,11 @@ unfolding full-status added
 returns c =
     let t = c .before .before .before .args .t in
     let small = c .before .before .before .pre .0 in
-    rw (le-ltb (t .commits) most-commits (omega (arith, c .if1 .taken)), add-one (t .commits))
-    (refl, refl, record { commits = omega arith; blocks = omega (arith, small .blocks); bytes = omega (arith, small .bytes) })
+    rw (le-ltb (t .commits) most-commits (omega (arith, c .if1 .taken)), add-one (t .commits)) (
+      refl,
+      refl,
+      record { commits = omega arith; blocks = omega (arith, small .blocks); bytes = omega (arith, small .bytes) },
+    )
 
 add-t7 : tie.Need-add-t7
 add-t7 c = search needs
@@ -31,8 +34,12 @@ returns-2 c =
     let start = c .before .before .before .before .before .before .before in
     let t = start .args .t in
     let small = start .pre .0 in
-    rw (lt-ltb (t .commits) most-commits (omega (arith, c .before .before .before .before .if1 .left)), add-one (t .commits))
-    (refl, refl, record { commits = omega arith; blocks = omega (arith, small .blocks); bytes = omega (arith, small .bytes) })
+    let less = lt-ltb (t .commits) most-commits (omega (arith, c .before .before .before .before .if1 .left)) in
+    rw (less, add-one (t .commits)) (
+      refl,
+      refl,
+      record { commits = omega arith; blocks = omega (arith, small .blocks); bytes = omega (arith, small .bytes) },
+    )
 
 pub add-spec : {M : Type 1} → statement M
 add-spec = tie.close (tie.spec add-commits returns add-t7 add-t8 returns-2)

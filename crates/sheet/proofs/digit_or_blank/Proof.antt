@@ -1,10 +1,8 @@
 -- `digit_or_blank` meets its contract.
 use borrow.Author.Needs.{needs}
 use mathlib.Core.Path.{sym}
-use Prim.Native.Nat.{_+_, _%_}
 use borrow.Author.Tests.{eq-eqb, ne-eqb}
 use Rattle.boards.proofs.Basics.{if-true, if-false}
-use Rattle.page.specs.Columns.{blank}
 use Rattle.sheet.proofs.digit_or_blank.Statement.{statement}
 use Rattle.sheet.proofs.digit_or_blank.Tie as tie
 

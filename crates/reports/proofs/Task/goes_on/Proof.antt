@@ -30,7 +30,8 @@ returns-3 c =
     let told = c .before .before in
     let task = told .before .before .before .before .args .self in
     rw (told .report .given .1)
-    (page-goes-on (run-of (task .run) area) (omega (arith, told .before .before .if1 .left)) (told .report .given .0 .0))
+    (page-goes-on (run-of (task .run) area) (omega (arith, told .before .before .if1 .left))
+    (told .report .given .0 .0))
 
 pub goes-on-spec : {M : Type 1} → statement M
 goes-on-spec = tie.close (tie.spec returns enum-told enum-known-report returns-2 returns-3)
