@@ -1,6 +1,6 @@
-// How a run ends: at the limit of 99,999 lines, whose last is cut, by errors of the system, and a page at its limit of
-// 9,999 commits. Each run is told in a line. The long events and what is printed of them are files of the folder that
-// the program is run in.
+// How a run ends: at the limit of 99,999 lines, whose last is cut, by errors of the system, and a page at these and at
+// its limit of 9,999 commits. Each run is told in a line, and the last lines of some follow. The long events and what is
+// printed of them are files of the folder that the program is run in.
 use reports::Task;
 use stream::Ended;
 ghost use Rattle.reports.specs.Tasks.{Fits};
@@ -20,6 +20,16 @@ fn write_events() {
     io::write_all(fd, b"F,1,1,1,0\n");
     repeat(fd, b"U\n", 99995);
     io::write_all(fd, b"W,0,0,07\nZ,1\nX,0\nR,0,0,1\n");
+    repeat(fd, b"0123456789", 2000);
+    libc::close(fd);
+}
+
+// A commit in line 99,999 and one in line 100,000; then a line that is longer than two pieces of what is read.
+fn write_late_commits() {
+    let fd = os::open_overwrite(b"commits");
+    io::write_all(fd, b"F,1,1,1,0\n");
+    repeat(fd, b"U\n", 99997);
+    repeat(fd, b"C,0,\n", 2);
     repeat(fd, b"0123456789", 2000);
     libc::close(fd);
 }
@@ -96,8 +106,8 @@ fn play_page(name: &[u8], from: i32) {
     tell_last(-96);
 }
 
-// A read or a write that fails ends a run; after a write that failed nothing more is read.
-fn main() {
+// At the limit of lines, by errors of the system; after a write that failed nothing more is read.
+fn play_all_rows() {
     write_events();
     play_rows(
         b"100,001 lines: ",
@@ -117,9 +127,20 @@ fn main() {
     );
     play_rows(b"closed output: ", os::open_read(b"long"), -1);
     tell_last(-80);
+}
+
+// At the limits of commits and of lines; after a read that failed there is no total line.
+fn play_all_pages() {
     write_commits(9999);
     play_page(b"page of 9,999 commits: ", os::open_read(b"commits"));
     write_commits(10000);
     play_page(b"page of 10,000 commits: ", os::open_read(b"commits"));
+    write_late_commits();
+    play_page(b"page of 100,001 lines: ", os::open_read(b"commits"));
     play_page(b"page of a directory: ", os::open_read(b"."));
+}
+
+fn main() {
+    play_all_rows();
+    play_all_pages();
 }

@@ -25,23 +25,23 @@ use Rattle.protocol.proofs.Outcomes.{taken, turned-down}
 use Rattle.protocol.proofs.Plans.{given-inside, ranged, write-inside, inside-quiet, recovering-quiet, decides-third}
 
 -- whether all members have acknowledged when board i has too
-abbrev pub complete : Record → ℕ → Bool
-complete before i = let c = commit-of (acknowledge before i) i in eqb (c .acknowledged) (c .members)
+abbrev pub all-acknowledged : Record → ℕ → Bool
+all-acknowledged before i = let c = commit-of (acknowledge before i) i in eqb (c .acknowledged) (c .members)
 
 -- the stores of an acknowledgement decide if all have and the third after the context is made
 pub acknowledging-decides : (s : Shape) (m : Memory) (before : Record) (i : ℕ) (context : List ℕ) (k : ℕ)
     → i < s .boards → length context ≡ s .context
     → anyOf decides (take k (map (raw s) (acknowledging s m before i context .stores)))
-    ≡ complete before i && leb (s .context + 3) k
+    ≡ all-acknowledged before i && leb (s .context + 3) k
 unfolding acknowledging
 acknowledging-decides s m before i context k board full =
     let g = commit-of (acknowledge before i) i .members in
     ⊎-elim
-    (λ (e : complete before i ≡ true).
+    (λ (e : all-acknowledged before i ≡ true).
     rw e (decides-third s m i g context board full k ∙ ap (λ n. leb (n + 3) k) full))
-    (λ (e : complete before i ≡ false).
+    (λ (e : all-acknowledged before i ≡ false).
     rw (e, append-nil) (sym (inside-quiet s k (given-inside s i context board full))))
-    (decide (complete before i))
+    (decide (all-acknowledged before i))
 
 module _ (image : List ℕ) (r : Record) where
   abbrev s : Shape
@@ -141,19 +141,11 @@ module _ (image : List ℕ) (r : Record) where
 
   pub gives-decides : {request : Request} {before : Record} {i : ℕ} {context : List ℕ}
       → Gives request before i context → (k : ℕ)
-      → says-decided request k ≡ complete before i && leb (s .context + 3) k
+      → says-decided request k ≡ all-acknowledged before i && leb (s .context + 3) k
   gives-decides {request} {before} {i} {context} g k =
       taken-decides request k (g .passed)
       ∙ ap (λ p. anyOf decides (take k (map (raw s) (p .stores)))) (g .planned)
       ∙ acknowledging-decides s m before i context k (g .entered .board) (g .full)
-
-  pub start-decides : (i : ℕ) (context : List ℕ) (k : ℕ) → refusal-at image r (Start i context) ≡ 0
-      → says-decided (Start i context) k ≡ complete (started i) i && leb (s .context + 3) k
-  start-decides i context k z = gives-decides (start-gives i context z) k
-
-  pub acknowledge-decides : (i : ℕ) (context : List ℕ) (k : ℕ) → refusal-at image r (Acknowledge i context) ≡ 0
-      → says-decided (Acknowledge i context) k ≡ complete r i && leb (s .context + 3) k
-  acknowledge-decides i context k z = gives-decides (acknowledge-gives i context z) k
 
   -- ---- a call that decided
 
@@ -163,7 +155,7 @@ module _ (image : List ℕ) (r : Record) where
     pub i : ℕ
     pub context : List ℕ
     pub gives : Gives request before i context
-    pub all : complete before i ≡ true
+    pub all : all-acknowledged before i ≡ true
     pub enough : s .context + 3 ≤ k
 
   module _ (request : Request) (k : ℕ) (d : says-decided request k ≡ true) where
@@ -179,7 +171,7 @@ module _ (image : List ℕ) (r : Record) where
         → (refusal-at image r request ≡ 0 → Gives request before i context) → Decides request k
     decided-gives {before} {i} {context} given =
         let g = given decided-passed in
-        let both = and-true (complete before i) (leb (s .context + 3) k) (sym (gives-decides g k) ∙ d) in
+        let both = and-true (all-acknowledged before i) (leb (s .context + 3) k) (sym (gives-decides g k) ∙ d) in
         record {
           before = before;
           i = i;

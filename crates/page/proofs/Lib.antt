@@ -5,3 +5,4 @@ pub mod Bounds
 pub mod Fits
 pub mod Right
 pub mod Rows
+pub mod Full

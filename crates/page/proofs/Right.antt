@@ -24,7 +24,7 @@ use Rattle.costs.proofs.Counted.{length-those, blocks-counted}
 use Rattle.costs.proofs.Given.{given-tags, deciding-length}
 use Rattle.page.specs.Saving.{saved}
 use Rattle.page.specs.Claims.{Decided-so, Commits-right}
-use Rattle.page.proofs.Decisions.{complete, gives-decides, Decides}
+use Rattle.page.proofs.Decisions.{all-acknowledged, gives-decides, Decides}
 use Rattle.page.proofs.Bounds.{decides, saves}
 
 -- the context, bytes 10 and 11 and the deciding store
@@ -78,18 +78,19 @@ module _ {image : List ℕ} {r : Record} {request : Request} {k : ℕ} (d : Deci
       cut-stopped image refl r request (d .gives .passed) (s .context + 3) (omega (arith, planned-length)) .memory
       ∙ rw planned-stores (at-decision s m (d .i) g (d .context) (d .gives .full))
 
-  -- done, it made all its stores
-  done-stores : perform image r request k .reply .answer .status ≡ 0
-      → perform image r request k .reply .answer .stores ≡ length (the-plan .stores)
-  done-stores e =
+  -- with any allowance: done, it made all its stores and answers its group
+  done-so : (n : ℕ) → perform image r request n .reply .answer .status ≡ 0
+      → (perform image r request n .reply .answer .stores ≡ length (the-plan .stores))
+      × (perform image r request n .reply .answer .group ≡ g)
+  done-so n e =
       let z = d .gives .passed in
       ⊎-elim
-      (λ l. absurd (omega (arith, cut-nine image refl r request z k l)))
-      (λ l. ap (λ a. a .stores) (done-answer image refl r request z k l))
-      (below-or k (length (the-plan .stores)))
+      (λ l. absurd (omega (arith, cut-nine image refl r request z n l)))
+      (λ l. let a = done-answer image refl r request z n l in (ap (λ a. a .stores) a, ap (λ a. a .group) a))
+      (below-or n (length (the-plan .stores)))
 
   decided-right : Decided-so s (view s (perform image r request (s .context + 3) .image))
-      (perform image r request k .reply .answer)
+      (λ n. perform image r request n .reply .answer)
       (saved s m g)
   unfolding saved decision change rank stored-group
   decided-right =
@@ -99,14 +100,15 @@ module _ {image : List ℕ} {r : Record} {request : Request} {k : ℕ} (d : Deci
         members = set-split g;
         blocks = tagged-still s m (d .i) g (d .context);
         bytes = refl;
-        stores = λ e. done-stores e ∙ planned-length;
+        stores = λ n e. done-so n e .0 ∙ planned-length;
+        group = λ n e. done-so n e .1;
       })
 
   -- not before its third store after the context
   undecided-before : perform image r request (s .context + 2) .reply .answer .decided ≡ false
   undecided-before =
       gives-decides image r (d .gives) (s .context + 2)
-      ∙ and-false (complete (d .before) (d .i)) (lt-leb (s .context + 3) (s .context + 2) (omega arith))
+      ∙ and-false (all-acknowledged (d .before) (d .i)) (lt-leb (s .context + 3) (s .context + 2) (omega arith))
 
 pub commits-right : Commits-right
 commits-right p request c d =
@@ -115,5 +117,5 @@ commits-right p request c d =
     let by-then = view s (call (s .context + 3) .image) in
     let how = decides p request d in (
       undecided-before how,
-      subst (Decided-so s by-then (call (p .k) .reply .answer)) (saves p request d) (decided-right how),
+      subst (Decided-so s by-then (λ n. call n .reply .answer)) (saves p request d) (decided-right how),
     )

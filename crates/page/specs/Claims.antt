@@ -17,9 +17,10 @@ use Rattle.text.specs.Whole.{Line, lines, Run, start, most-lines, next-run}
 use Rattle.page.specs.declared.Saved.{Saved}
 use Rattle.page.specs.declared.Decided.{Decided}
 use Rattle.page.specs.declared.Decided.the-variants.{Nothing, Commit}
+use Rattle.page.specs.declared.Totals.{Totals}
 use Rattle.page.specs.Saving.{decided-by}
 use Rattle.page.specs.Columns.{blank, padded, commit-line, total-line}
-use Rattle.page.specs.Page.{most-commits, page}
+use Rattle.page.specs.Page.{most-commits, full-status, added, decided-text, page-goes, page}
 
 -- ---- a page is the list of its commits
 
@@ -79,19 +80,36 @@ number-said n (c ∷ cs) = number-said (cond (eqb c blank) n (n * 10 + (c - 48))
 abbrev pub Columns-say : Type 0
 Columns-say = (w n : ℕ) → (length (padded w n) ≡ w) × (n < 10 ^ w → number-said 0 (padded w n) ≡ n)
 
+-- ---- 18
+
+-- A decided commit c after those of the totals t, in a run that goes on as r: one of the first 9,999 is answered 0, and
+-- the reading goes on, up to the last line that a run takes; the next one is answered 18, nothing of it is printed or
+-- summed, and the reading stops.
+pub record Answered-18 (t : Totals) (c : Saved) (r : Run) : Type 0 where
+  pub printed : t .commits < most-commits
+      → (full-status t ≡ 0) × (page-goes (record { run = r; totals = added t c }) ≡ ltb (r .played) most-lines)
+  pub full : t .commits ≡ most-commits
+      → (full-status t ≡ 18) × (decided-text t (Commit c) ≡ []) × (added t c .blocks ≡ t .blocks)
+      × (added t c .bytes ≡ t .bytes) × (page-goes (record { run = r; totals = added t c }) ≡ false)
+
+abbrev pub Full-answers-18 : Type 0
+Full-answers-18 = (t : Totals) (c : Saved) (r : Run) → Answered-18 t c r
+
 -- ---- what the numbers are
 
--- A commit c, of the shape s, that a call with this answer decided: m is what stood in the image when it did.
-pub record Decided-so (s : Shape) (m : Memory) (answer : Answer) (c : Saved) : Type 0 where
-  -- byte 9 was 1, the members stood in bytes 10 and 11, and the blocks are those whose tags named one of them
+-- A commit c, of the shape s, that a call decides: m is what stands in the image when it does, and the answers are
+-- those that it gives with each allowance.
+pub record Decided-so (s : Shape) (m : Memory) (answer : ℕ → Answer) (c : Saved) : Type 0 where
+  -- byte 9 is 1, the members stand in bytes 10 and 11, and the blocks are those whose tags name one of them
   pub decision : m Decision 0 ≡ 1
   pub members : stored-group m ≡ c .members
   pub blocks : length (tagged-blocks s m (c .members)) ≡ c .blocks
-  -- with g members: the bytes, and the stores of the call, if it was done
+  -- with g members: the bytes; and the stores and the group of the call wherever it is done
   pub bytes : c .bytes ≡ c .blocks * s .size + length (boards-of s (c .members)) * s .context
-  pub stores : answer .status ≡ 0
-      → answer .stores
+  pub stores : (k : ℕ) → answer k .status ≡ 0
+      → answer k .stores
       ≡ s .context + (4 + c .blocks * (s .size + 1) + length (boards-of s (c .members)) * s .context)
+  pub group : (k : ℕ) → answer k .status ≡ 0 → answer k .group ≡ c .members
 
 -- Any image, record and allowance, the call done or cut: it decides by its third store after the context.
 abbrev pub Commits-right : Type 0
@@ -101,7 +119,7 @@ Commits-right =
     → let s = shape-of (p .image) in
     let call = perform (p .image) (p .state) request in
     (call (s .context + 2) .reply .answer .decided ≡ false)
-    × Decided-so s (view s (call (s .context + 3) .image)) (call (p .k) .reply .answer) c
+    × Decided-so s (view s (call (s .context + 3) .image)) (λ k. call k .reply .answer) c
 
 -- A line gives a commit exactly if one of its rows says decided.
 abbrev pub Rows-say-decided : Type 0

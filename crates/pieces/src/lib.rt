@@ -6,8 +6,8 @@ ghost use lib.ListN.{length, take, drop};
 ghost use Rattle.pieces.specs.Answers.{meaning};
 ghost use Rattle.pieces.specs.Pieces.{Next-line, kept-length, Keeps};
 
-// Where the text that is to be played next ends; or there is none: at the input's end or after the last line that a run
-// takes, or because a read failed.
+// Where the text that is to be played next ends; or there is none: at the input's end, since no next line is played, or
+// because a read failed.
 pub enum Got {
     Text(usize),
     End,

@@ -228,7 +228,7 @@ fn report(lines: usize, size: usize) -> usize
     1
 }
 
-// Plays the pair that an argument names; answers 0 or 1.
+// Plays the files that an argument names; answers 0 or 1.
 fn replay(i: usize, path: &mut [u8]) -> usize
     ensures { λ r. ⌜ r ≤ 1 ⌝ }
 {

@@ -29,7 +29,7 @@ use Rattle.text.specs.Turns.{Player}
 use Rattle.runner.specs.OneLine.{run-of, Event-played}
 use Rattle.runner.specs.declared.Run.{Run}
 use Rattle.runner.specs.declared.Played.{Played}
-use Rattle.reports.specs.Reports.{State, Printing, Paging, lifted, report-step, report-close, reporting}
+use Rattle.reports.specs.Reports.{State, Rows-state, Page-state, lifted, report-step, report-close, reporting}
 use Rattle.reports.specs.Reports.{Each-its-own, goes}
 use Rattle.reports.specs.Tasks.{by-report, state-of, event-text, state-after, Amounts-fit, Decided-printed}
 use Rattle.reports.specs.Tasks.{Rows-printed, Stepped-on}
@@ -60,8 +60,8 @@ pub each-its-own : Each-its-own
 unfolding report-step report-close
 each-its-own =
     record {
-      rows = as-alone rsmrun Printing (λ a l. refl) (λ a. refl);
-      page = as-alone rsmpage Paging (λ a l. refl) (λ a. refl);
+      rows = as-alone rsmrun Rows-state (λ a l. refl) (λ a. refl);
+      page = as-alone rsmpage Page-state (λ a l. refl) (λ a. refl);
     }
 
 -- ---- the next line
@@ -73,11 +73,11 @@ module _ (w : Whole) where
   past-last (report.Page t) l = sym (false-and _ (le-ltb (w .played) most-lines l))
 
   module _ (l : w .played < most-lines) where
-    pub rows-go : true ≡ goes (Printing w)
+    pub rows-go : true ≡ goes (Rows-state w)
     unfolding goes
     rows-go = sym (lt-ltb (w .played) most-lines l)
 
-    pub page-goes-on : (t : Totals) → leb (t .commits) 9999 ≡ goes (Paging (record { run = w; totals = t }))
+    pub page-goes-on : (t : Totals) → leb (t .commits) 9999 ≡ goes (Page-state (record { run = w; totals = t }))
     unfolding goes page-goes
     page-goes-on t = rw (lt-ltb (w .played) most-lines l)
 
@@ -98,13 +98,13 @@ pub goes-steps : (v : State) (l : Line) → goes v ≡ true
     → reporting .step v l ≡ Goes (event-text v (taken l)) (state-after v (taken l))
 unfolding reporting report-step lifted goes event-text state-after
     rsmrun line-step line-text line-rows next-run rsmpage page-step
-goes-steps (Printing r) l e = rw e
-goes-steps (Paging p) l e = rw e
+goes-steps (Rows-state r) l e = rw e
+goes-steps (Page-state p) l e = rw e
 
 pub ends-steps : (v : State) (l : Line) → goes v ≡ false → reporting .step v l ≡ Ends
 unfolding reporting report-step lifted goes rsmrun line-step rsmpage page-step
-ends-steps (Printing r) l e = rw e
-ends-steps (Paging p) l e = rw e
+ends-steps (Rows-state r) l e = rw e
+ends-steps (Page-state p) l e = rw e
 
 -- ---- commits
 
@@ -159,23 +159,23 @@ module _ (run : Run) (t : Totals) {d : Decided} (at : ℕ) (out : List ℕ) wher
 module _ (w : Whole) (e : Event) {at : ℕ} {out area x buffer : List ℕ} {p : Played} {r : Stepped}
     (played : Event-played w e p area buffer)
   where
-    pub rows-stepped : Rows-printed p buffer at out r x → Stepped-on (Printing w) e at out r area x
+    pub rows-stepped : Rows-printed p buffer at out r x → Stepped-on (Rows-state w) e at out r area x
     unfolding event-text state-after
     rows-stepped printed =
         record {
           written = rw (played .rows, ap (λ (v : Whole). v .played) (played .next)) at (printed .written);
-          next = rw (printed .task) (ap Printing (played .next));
+          next = rw (printed .task) (ap Rows-state (played .next));
           most = printed .most;
           fits = rw (printed .task) (record { image = played .fits; report = tt });
         }
 
     pub page-stepped : {t : Totals} {d : Decided} → d ≡ decided-by (w .player) e
         → Decided-printed (p .run) t d at out r x
-        → Stepped-on (Paging (record { run = w; totals = t })) e at out r area x
+        → Stepped-on (Page-state (record { run = w; totals = t })) e at out r area x
     unfolding event-text state-after
     page-stepped {t} same printed =
         let d = decided-by (w .player) e in
-        let to-state : Whole → State = λ v. Paging (record { run = v; totals = totals-after t d }) in
+        let to-state : Whole → State = λ v. Page-state (record { run = v; totals = totals-after t d }) in
         record {
           written = rw same at (printed .written);
           next = rw (printed .task, same) (ap to-state (played .next));
@@ -187,8 +187,8 @@ module _ (w : Whole) (e : Event) {at : ℕ} {out area x buffer : List ℕ} {p : 
 
 -- how many lines were played
 abbrev lines-played : State → ℕ
-lines-played (Printing w) = w .played
-lines-played (Paging p) = p .run .played
+lines-played (Rows-state w) = w .played
+lines-played (Page-state p) = p .run .played
 
 task-played : (t : Task) (area : List ℕ) → lines-played (state-of t area) ≡ t .run .played
 task-played t area = go (t .report)
@@ -199,8 +199,8 @@ task-played t area = go (t .report)
 
 one-more : (v : State) (e : Event) → lines-played (state-after v e) ≡ suc (lines-played v)
 unfolding state-after
-one-more (Printing w) e = refl
-one-more (Paging p) e = refl
+one-more (Rows-state w) e = refl
+one-more (Page-state p) e = refl
 
 -- one that goes on has not played all lines that a run takes
 pub task-lines : (t : Task) (area : List ℕ) → goes (state-of t area) ≡ true → t .run .played < most-lines

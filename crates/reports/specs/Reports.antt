@@ -9,30 +9,30 @@ use Rattle.page.specs.Page.{Page, page-goes, rsmpage}
 
 -- a state of `rsmrun`, or one of `rsmpage`
 pub data State : Type 0 where
-  Printing : Run → State
-  Paging : Page → State
+  Rows-state : Run → State
+  Page-state : Page → State
 
 unfoldable pub lifted : {A : Type 0} → (A → State) → Step A → Step State
 lifted f (Goes text next) = Goes text (f next)
 lifted f Ends = Ends
 
 unfoldable pub report-step : State → Line → Step State
-report-step (Printing r) l = lifted Printing (rsmrun .step r l)
-report-step (Paging p) l = lifted Paging (rsmpage .step p l)
+report-step (Rows-state r) l = lifted Rows-state (rsmrun .step r l)
+report-step (Page-state p) l = lifted Page-state (rsmpage .step p l)
 
 unfoldable pub report-close : State → List ℕ
-report-close (Printing r) = rsmrun .close r
-report-close (Paging p) = rsmpage .close p
+report-close (Rows-state r) = rsmrun .close r
+report-close (Page-state p) = rsmpage .close p
 
 unfoldable pub reporting : Program State
 reporting = record { step = report-step; close = report-close }
 
 -- its output is that of the program whose state it is
 pub record Each-its-own : Type 0 where
-  pub rows : (r : Run) (ls : List Line) → output-by reporting (Printing r) ls ≡ output-by rsmrun r ls
-  pub page : (p : Page) (ls : List Line) → output-by reporting (Paging p) ls ≡ output-by rsmpage p ls
+  pub rows : (r : Run) (ls : List Line) → output-by reporting (Rows-state r) ls ≡ output-by rsmrun r ls
+  pub page : (p : Page) (ls : List Line) → output-by reporting (Page-state p) ls ≡ output-by rsmpage p ls
 
 -- whether a next line is played
 unfoldable pub goes : State → Bool
-goes (Printing r) = ltb (r .played) most-lines
-goes (Paging p) = page-goes p
+goes (Rows-state r) = ltb (r .played) most-lines
+goes (Page-state p) = page-goes p

@@ -7,7 +7,7 @@ use lib.ListN.{length}
 use Rattle.text.specs.Events.{Event}
 use Rattle.text.specs.Rows.{rows-text, rows-meant}
 use Rattle.text.specs.Turns.{Player, play}
-use Rattle.text.specs.Whole.{Run as Whole}
+use Rattle.text.specs.Whole.{Run as Whole, run-after}
 use Rattle.digits.specs.Append.{Appends}
 use Rattle.page.specs.Saving.{decided-by}
 use Rattle.page.specs.Page.{totals-after, decided-text}
@@ -19,7 +19,7 @@ use Rattle.turns.specs.Turned.{area-size}
 use Rattle.runner.specs.OneLine.{run-of}
 use Rattle.runner.specs.declared.Run.{Run}
 use Rattle.runner.specs.declared.Played.{Played}
-use Rattle.reports.specs.Reports.{State, Printing, Paging, goes}
+use Rattle.reports.specs.Reports.{State, Rows-state, Page-state, goes}
 use Rattle.reports.specs.declared.Report.{Report}
 use Rattle.reports.specs.declared.Report.the-variants as report
 use Rattle.reports.specs.declared.Task.{Task}
@@ -29,8 +29,8 @@ use Rattle.reports.specs.declared.Stepped.{Stepped}
 
 -- the state of the definitions that a report of a run is; that a task with its area is
 abbrev pub by-report : Report → Whole → State
-by-report report.Rows w = Printing w
-by-report (report.Page t) w = Paging (record { run = w; totals = t })
+by-report report.Rows w = Rows-state w
+by-report (report.Page t) w = Page-state (record { run = w; totals = t })
 
 abbrev pub state-of : Task → List ℕ → State
 state-of t area = by-report (t .report) (run-of (t .run) area)
@@ -53,19 +53,15 @@ pub record Able (t : Task) (area : List ℕ) : Type 0 where
 
 -- ---- one line
 
--- the run after an event
-abbrev pub run-after : Whole → Event → Whole
-run-after w e = record { played = suc (w .played); player = play (w .player) e .next }
-
 -- what is printed of an event, and the state after it
 unfoldable pub event-text : State → Event → List ℕ
-event-text (Printing w) e = rows-text (suc (w .played)) (play (w .player) e .rows)
-event-text (Paging p) e = decided-text (p .totals) (decided-by (p .run .player) e)
+event-text (Rows-state w) e = rows-text (suc (w .played)) (play (w .player) e .rows)
+event-text (Page-state p) e = decided-text (p .totals) (decided-by (p .run .player) e)
 
 unfoldable pub state-after : State → Event → State
-state-after (Printing w) e = Printing (run-after w e)
-state-after (Paging p) e =
-    Paging (record { run = run-after (p .run) e; totals = totals-after (p .totals) (decided-by (p .run .player) e) })
+state-after (Rows-state w) e = Rows-state (run-after w e)
+state-after (Page-state p) e =
+    Page-state (record { run = run-after (p .run) e; totals = totals-after (p .totals) (decided-by (p .run .player) e) })
 
 -- the text of an event stands in the output from `at` on
 pub record Stepped-on (v : State) (e : Event) (at : ℕ) (before : List ℕ) (r : Stepped) (area after : List ℕ) : Type 0
@@ -78,9 +74,9 @@ pub record Stepped-on (v : State) (e : Event) (at : ℕ) (before : List ℕ) (r 
 -- ---- its parts
 
 -- before it is played: the commit that it will decide, if a page is printed
-abbrev pub Looked : Report → Player → Event → Decided → Type 0
-Looked report.Rows p e d = Unit {0}
-Looked (report.Page t) p e d = d ≡ decided-by p e
+abbrev pub To-be-decided : Report → Player → Event → Decided → Type 0
+To-be-decided report.Rows p e d = Unit {0}
+To-be-decided (report.Page t) p e d = d ≡ decided-by p e
 
 -- its rows are printed, under the number of lines that were played
 pub record Rows-printed (p : Played) (buffer : List ℕ) (at : ℕ) (before : List ℕ) (r : Stepped) (after : List ℕ)

@@ -4,7 +4,7 @@ use events::take_apart;
 use page::Decided;
 use page::Totals;
 use printing::put_rows;
-use runner::MOST;
+use runner::MOST_LINES;
 use runner::Played;
 use runner::Run;
 use runner::play_event;
@@ -18,7 +18,7 @@ use text::Parsed;
 use turns::Session;
 ghost use mathlib.Core.Path.{_≡_};
 ghost use mathlib.Core.Bool.{true};
-ghost use mathlib.Core.List.{List, []};
+ghost use mathlib.Core.List.{List};
 ghost use Prim.Native.Nat.{ℕ, _+_, _≤_, _<_};
 ghost use lib.ListN.{length};
 ghost use Rattle.digits.specs.Append.{Appends};
@@ -27,9 +27,9 @@ ghost use Rattle.text.specs.Whole.{Run as Whole, start};
 ghost use Rattle.page.specs.Page.{first-page};
 ghost use Rattle.sheet.specs.Sums.{Small};
 ghost use Rattle.turns.specs.Turned.{player-of};
-ghost use Rattle.reports.specs.Reports.{Printing, Paging, goes, report-close};
+ghost use Rattle.reports.specs.Reports.{Rows-state, Page-state, goes, report-close};
 ghost use Rattle.reports.specs.Tasks.{by-report, state-of, Fits, Able, Stepped-on};
-ghost use Rattle.reports.specs.Tasks.{Looked, Rows-printed, Amounts-fit, Decided-printed};
+ghost use Rattle.reports.specs.Tasks.{To-be-decided, Rows-printed, Amounts-fit, Decided-printed};
 
 // The rows of each line, or a line of the page for each decided commit.
 pub enum Report {
@@ -52,7 +52,7 @@ pub struct Stepped {
 impl Task {
     // `rsmrun` before its first line.
     pub fn rows() -> Task
-        ensures { λ r. ⌜ Fits r × (state-of r [] ≡ Printing start) ⌝ }
+        ensures { λ r. ⌜ Fits r × ((area : List ℕ) → state-of r area ≡ Rows-state start) ⌝ }
     {
         let run = Run::new();
         let report = Report::Rows;
@@ -61,7 +61,7 @@ impl Task {
 
     // `rsmpage` before its first line.
     pub fn page() -> Task
-        ensures { λ r. ⌜ Fits r × (state-of r [] ≡ Paging first-page) ⌝ }
+        ensures { λ r. ⌜ Fits r × ((area : List ℕ) → state-of r area ≡ Page-state first-page) ⌝ }
     {
         let run = Run::new();
         let totals = no_totals();
@@ -73,7 +73,7 @@ impl Task {
     pub fn goes_on(self) -> bool
         ensures { λ r. ⌜ ((area : List ℕ) → r ≡ goes (state-of self area)) ⌝ }
     {
-        if self.run.played >= MOST {
+        if self.run.played >= MOST_LINES {
             return false;
         }
         let report = self.report;
@@ -85,9 +85,15 @@ impl Task {
 }
 
 // Before a line is played: the commit that it will decide, if a page is printed.
-fn look(report: Report, area: &[u8], session: Session, line: Parsed, buffer: &[u8]) -> Decided
+fn to_be_decided(
+    report: Report,
+    area: &[u8],
+    session: Session,
+    line: Parsed,
+    buffer: &[u8],
+) -> Decided
     requires { ⌜ (session .length ≤ length (now area)) × (counted line ≤ length (now buffer)) ⌝ }
-    ensures { λ r. ⌜ Looked report (player-of session (now (area .entry))) (meant line (now (buffer .entry))) r ⌝ }
+    ensures { λ r. ⌜ To-be-decided report (player-of session (now (area .entry))) (meant line (now (buffer .entry))) r ⌝ }
 {
     let Report::Page(_) = report else {
         return Decided::Nothing;
@@ -149,7 +155,7 @@ pub fn step(
     let run = task.run;
     let report = task.report;
     let session = run.session;
-    let d = look(report, area, session, parsed, buffer);
+    let d = to_be_decided(report, area, session, parsed, buffer);
     let played = play_event(parsed, area, run, buffer);
     match report {
         Report::Rows => print_rows(played, out, at, buffer),

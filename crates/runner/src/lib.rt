@@ -6,8 +6,8 @@ use turns::Session;
 use turns::UNCUT;
 use volatile::Record;
 ghost use mathlib.Core.Path.{_≡_};
-ghost use mathlib.Core.List.{[]};
-ghost use Prim.Native.Nat.{_≤_, _<_};
+ghost use mathlib.Core.List.{List};
+ghost use Prim.Native.Nat.{ℕ, _≤_, _<_};
 ghost use lib.ListN.{length};
 ghost use Rattle.text.specs.Events.{meant, counted};
 ghost use Rattle.text.specs.Whole.{start};
@@ -15,7 +15,7 @@ ghost use Rattle.turns.specs.Turned.{Ready};
 ghost use Rattle.runner.specs.OneLine.{run-of, Event-played};
 
 // The lines that a run takes at most.
-pub const MOST: usize = 99999;
+pub const MOST_LINES: usize = 99999;
 
 // How many lines were played, and what stands between two lines.
 pub struct Run {
@@ -32,7 +32,7 @@ pub struct Played {
 impl Run {
     // Before the first line the image is empty, the record off.
     pub fn new() -> Run
-        ensures { λ r. ⌜ (r .session .length ≡ 0) × (run-of r [] ≡ start) ⌝ }
+        ensures { λ r. ⌜ (r .session .length ≡ 0) × ((area : List ℕ) → run-of r area ≡ start) ⌝ }
     {
         let state = Record::off();
         let session = Session {

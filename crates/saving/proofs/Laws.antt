@@ -26,7 +26,7 @@ use Rattle.page.specs.declared.Decided.the-variants.{Nothing, Commit}
 use Rattle.page.proofs.Decisions.{says-decided, refused-undecided, read-undecided, write-undecided, fault-undecided}
 use Rattle.page.proofs.Decisions.{power-up-undecided, Gives, gives-decides}
 use Rattle.page.proofs.Bounds.{saved-fits}
-use Rattle.saving.specs.Complete.{completed}
+use Rattle.saving.specs.Acknowledged.{if-all-acknowledged}
 
 -- ---- what a commit saves
 
@@ -40,19 +40,19 @@ few-bytes s m g fine e f = rw (e, f) (saved-fits s m g fine .1)
 -- ---- when the last member acknowledges
 
 module _ (s : Shape) (m : Memory) (r : Record) (i k : ℕ) where
-  pub not-all : commit-of r i .acknowledged ≢ commit-of r i .members → Nothing ≡ completed s m r i k
-  unfolding completed
+  pub not-all : commit-of r i .acknowledged ≢ commit-of r i .members → Nothing ≡ if-all-acknowledged s m r i k
+  unfolding if-all-acknowledged
   not-all e = sym (if-false _ _ (false-and (leb (s .context + 3) k) (ne-eqb _ _ e)))
 
-  pub too-short : k < s .context + 3 → Nothing ≡ completed s m r i k
-  unfolding completed
+  pub too-short : k < s .context + 3 → Nothing ≡ if-all-acknowledged s m r i k
+  unfolding if-all-acknowledged
   too-short l =
       let c = commit-of r i in
       sym (if-false _ _ (and-false (eqb (c .acknowledged) (c .members)) (lt-leb (s .context + 3) k l)))
 
   pub all-of-them : commit-of r i .acknowledged ≡ commit-of r i .members → s .context + 3 ≤ k
-      → Commit (saved s m (commit-of r i .members)) ≡ completed s m r i k
-  unfolding completed
+      → Commit (saved s m (commit-of r i .members)) ≡ if-all-acknowledged s m r i k
+  unfolding if-all-acknowledged
   all-of-them e l = sym (if-true _ _ (true-and (eq-eqb _ _ e) (le-leb (s .context + 3) k l)))
 
 -- ---- the lines
@@ -88,11 +88,11 @@ module _ (image : List ℕ) (state : Record) (k : ℕ) where
   others-nothing (parsed.Allow n) buffer h = refl
   others-nothing (parsed.Refused n) buffer h = refl
 
-  pub completed-decides : {request : Request} {before r : Record} {i : ℕ} {context : List ℕ} {s : Shape}
+  pub acknowledged-decides : {request : Request} {before r : Record} {i : ℕ} {context : List ℕ} {s : Shape}
       → Gives image state request before i context → r ≡ acknowledge before i → shape-of image ≡ s
-      → completed s (view s image) r i k ≡ decided-by player (Make request)
-  unfolding decided-by completed acknowledging
-  completed-decides {request} {before} {i = i} given same shape =
+      → if-all-acknowledged s (view s image) r i k ≡ decided-by player (Make request)
+  unfolding decided-by if-all-acknowledged acknowledging
+  acknowledged-decides {request} {before} {i = i} given same shape =
       rw (same, ← shape)
       (ap₂ (λ (b : Bool) (g : ℕ). cond b (Commit (saved (shape-of image) (view (shape-of image) image) g)) Nothing)
       (sym (gives-decides image state given k)) (ap (λ p. p .group) (sym (given .planned))))

@@ -19,7 +19,7 @@ ghost use Rattle.protocol.specs.Image.{allowed, total, view};
 ghost use Rattle.protocol.specs.Calls.{Start, Acknowledge};
 ghost use Rattle.text.specs.Events.{Make, meant, counted};
 ghost use Rattle.page.specs.Saving.{saved, decided-by};
-ghost use Rattle.saving.specs.Complete.{completed};
+ghost use Rattle.saving.specs.Acknowledged.{if-all-acknowledged};
 
 // What a commit of the members g saves.
 fn saved(image: &[u8], s: Shape, g: u16) -> Saved
@@ -37,9 +37,9 @@ fn saved(image: &[u8], s: Shape, g: u16) -> Saved
 
 // Board i has acknowledged, which gave the record r: its commit is decided if all members have, and the allowance lasts
 // to the deciding store, the third after the context.
-fn completed(image: &[u8], s: Shape, r: Record, i: u8, k: usize) -> Decided
+fn if_all_acknowledged(image: &[u8], s: Shape, r: Record, i: u8, k: usize) -> Decided
     requires { ⌜ (allowed s ≡ true) × (length (now image) ≡ total s) ⌝ }
-    ensures { λ d. ⌜ d ≡ completed s (view s (now (image .entry))) r i k ⌝ }
+    ensures { λ d. ⌜ d ≡ if-all-acknowledged s (view s (now (image .entry))) r i k ⌝ }
 {
     let open = r.commit_of(i);
     let g = open.members;
@@ -49,8 +49,8 @@ fn completed(image: &[u8], s: Shape, r: Record, i: u8, k: usize) -> Decided
     if k < s.context + 3 {
         return Decided::Nothing;
     }
-    let whole = saved(image, s, g);
-    Decided::Commit(whole)
+    let amounts = saved(image, s, g);
+    Decided::Commit(amounts)
 }
 
 // A start: refused, it decides nothing.
@@ -66,7 +66,7 @@ fn by_start(image: &[u8], state: Record, board: usize, context: &[u8], k: usize)
     let rows = state.rows;
     let group = commit_closure(rows, i);
     let next = state.start(i, group.members);
-    completed(image, s, next, i, k)
+    if_all_acknowledged(image, s, next, i, k)
 }
 
 // Likewise an acknowledgement.
@@ -86,7 +86,7 @@ fn by_acknowledgement(
     };
     let i = board as u8;
     let next = state.acknowledge(i);
-    completed(image, s, next, i, k)
+    if_all_acknowledged(image, s, next, i, k)
 }
 
 // A line that was taken apart; its bytes stand at the start of the buffer. Only these two decide.

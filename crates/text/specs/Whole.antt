@@ -4,7 +4,7 @@ use mathlib.Core.Bool.{cond}
 use mathlib.Core.List.{List, [], _∷_, _++_}
 use lib.Dec.{eqb, ltb}
 use Rattle.text.specs.Fields.{line-feed}
-use Rattle.text.specs.Events.{taken}
+use Rattle.text.specs.Events.{Event, taken}
 use Rattle.text.specs.Rows.{Row, rows-text}
 use Rattle.text.specs.Turns.{Player, unformatted, play}
 
@@ -59,15 +59,18 @@ start = record { played = 0; player = unformatted }
 abbrev pub most-lines : ℕ
 most-lines = 99999
 
--- the rows of one line, their text, and the run after it
+-- the rows of one line, their text; the run after an event, and after a line
 unfoldable pub line-rows : Run → Line → List Row
 line-rows r l = play (r .player) (taken l) .rows
 
 unfoldable pub line-text : Run → Line → List ℕ
 line-text r l = rows-text (suc (r .played)) (line-rows r l)
 
+abbrev pub run-after : Run → Event → Run
+run-after r e = record { played = suc (r .played); player = play (r .player) e .next }
+
 unfoldable pub next-run : Run → Line → Run
-next-run r l = record { played = suc (r .played); player = play (r .player) (taken l) .next }
+next-run r l = run-after r (taken l)
 
 -- it stops after the last line that a run takes, and closes with nothing
 unfoldable pub line-step : Run → Line → Step Run

@@ -13,24 +13,6 @@ use Rattle.commit.proofs.Laws.{acknowledged-group}
 use Rattle.commit.proofs.acknowledge.Statement.{statement}
 use Rattle.commit.proofs.acknowledge.Tie as tie
 
-acknowledge-entry-requires : tie.Need-acknowledge-entry-requires
-acknowledge-entry-requires c κs = search needs
-
-enum-known-entry : tie.Need-enum-known-entry
-enum-known-entry c = search needs
-
-enum-told : tie.Need-enum-told
-enum-told c = search needs
-
-number-requires : tie.Need-number-requires
-number-requires c κs = search needs
-
-refusal-requires : tie.Need-refusal-requires
-refusal-requires c κs = search needs
-
-same-length : tie.Need-same-length
-same-length c = search needs
-
 returns : tie.Need-returns
 unfolding record-refused
 returns c =
@@ -52,14 +34,8 @@ known c = if-taken (c .before .before .acknowledge-entry .ensures) (c .entry .gi
 cast-i : tie.Need-cast-i
 cast-i c = omega (arith, small (known (c .before) .1 .entry))
 
-commit-of-requires : tie.Need-commit-of-requires
-commit-of-requires c κs = search needs
-
 acknowledge-requires : tie.Need-acknowledge-requires
 acknowledge-requires c κs = small (known (c .before .before) .1 .entry)
-
-without-requires : tie.Need-without-requires
-without-requires c κs = search needs
 
 give-requires : tie.Need-give-requires
 give-requires c κs =
@@ -72,9 +48,6 @@ give-requires c κs =
     let group = acknowledged-group (args .state) (args .board) (noted .acknowledge .ensures)
     (named .commit-of .ensures) (c .before .without .ensures) in
     (entry .shaped .allowed-shape, entry .shaped .long, entry .board, offered .full, group)
-
-same-length-2 : tie.Need-same-length-2
-same-length-2 c = search needs
 
 returns-2 : tie.Need-returns-2
 unfolding plan
@@ -92,17 +65,17 @@ pub acknowledge-spec : {M : Type 1} → statement M
 acknowledge-spec =
     tie.close
     (tie.spec
-    acknowledge-entry-requires
-    enum-known-entry
-    enum-told
-    number-requires
-    refusal-requires
-    same-length
+    (λ c κs. tt)
+    (λ c. omega arith)
+    (λ c. omega arith)
+    (λ c κs. tt)
+    (λ c κs. tt)
+    (λ c. refl)
     returns
     cast-i
-    commit-of-requires
+    (λ c κs. tt)
     acknowledge-requires
-    without-requires
+    (λ c κs. tt)
     give-requires
-    same-length-2
+    (λ c. search needs)
     returns-2)

@@ -1,5 +1,4 @@
 -- `acknowledge_entry` meets its contract: the beginning, then 15 and 16.
-use borrow.Author.Needs.{needs}
 use mathlib.Core.Path.{_≡_, sym, _∙_, ap, subst}
 use mathlib.Core.List.{[], _∷_}
 use native.Mathlib.Omega.{arith}
@@ -16,15 +15,6 @@ use Rattle.commit.specs.Begin.{begin-tests, Offered}
 use Rattle.commit.proofs.Laws.{acknowledge-other, acknowledge-last}
 use Rattle.commit.proofs.acknowledge_entry.Statement.{statement}
 use Rattle.commit.proofs.acknowledge_entry.Tie as tie
-
-begin-requires : tie.Need-begin-requires
-begin-requires c κs = search needs
-
-enum-known-entry : tie.Need-enum-known-entry
-enum-known-entry c = search needs
-
-enum-told : tie.Need-enum-told
-enum-told c = search needs
 
 returns : tie.Need-returns
 unfolding refusals entry-tests acknowledge-tests
@@ -45,9 +35,6 @@ known c = if-taken (c .before .before .begin .ensures) (c .entry .given .1)
 cast-i : tie.Need-cast-i
 cast-i c = omega (arith, small (known (c .before) .1 .entry))
 
-engaged-requires : tie.Need-engaged-requires
-engaged-requires c κs = search needs
-
 has-requires : tie.Need-has-requires
 has-requires c κs = small (known (c .before .before) .1 .entry)
 
@@ -65,9 +52,6 @@ returns-2 c =
     refused
     (acknowledge-other _ _ _ _ (known (asked .before .before .before) .0) (member asked ∙ not-true _ (c .if1 .taken)))
     (λ z. omega arith)
-
-commit-of-requires : tie.Need-commit-of-requires
-commit-of-requires c κs = search needs
 
 has-requires-2 : tie.Need-has-requires-2
 has-requires-2 c κs = small (known (c .before .before .before .before .before) .1 .entry)
@@ -100,15 +84,15 @@ pub acknowledge-entry-spec : {M : Type 1} → statement M
 acknowledge-entry-spec =
     tie.close
     (tie.spec
-    begin-requires
-    enum-known-entry
-    enum-told
+    (λ c κs. tt)
+    (λ c. omega arith)
+    (λ c. omega arith)
     returns
     cast-i
-    engaged-requires
+    (λ c κs. tt)
     has-requires
     returns-2
-    commit-of-requires
+    (λ c κs. tt)
     has-requires-2
     returns-3
     returns-4)

@@ -13,24 +13,6 @@ use Rattle.commit.proofs.Laws.{started, started-group}
 use Rattle.commit.proofs.start.Statement.{statement}
 use Rattle.commit.proofs.start.Tie as tie
 
-start-entry-requires : tie.Need-start-entry-requires
-start-entry-requires c κs = search needs
-
-enum-known-entry : tie.Need-enum-known-entry
-enum-known-entry c = search needs
-
-enum-told : tie.Need-enum-told
-enum-told c = search needs
-
-number-requires : tie.Need-number-requires
-number-requires c κs = search needs
-
-refusal-requires : tie.Need-refusal-requires
-refusal-requires c κs = search needs
-
-same-length : tie.Need-same-length
-same-length c = search needs
-
 returns : tie.Need-returns
 unfolding record-refused
 returns c =
@@ -68,9 +50,6 @@ give-requires c κs =
     (started .before .commit-closure .ensures) in
     (entry .shaped .allowed-shape, entry .shaped .long, entry .board, offered .full, group)
 
-same-length-2 : tie.Need-same-length-2
-same-length-2 c = search needs
-
 returns-2 : tie.Need-returns-2
 unfolding plan
 returns-2 c =
@@ -89,16 +68,16 @@ pub start-spec : {M : Type 1} → statement M
 start-spec =
     tie.close
     (tie.spec
-    start-entry-requires
-    enum-known-entry
-    enum-told
-    number-requires
-    refusal-requires
-    same-length
+    (λ c κs. tt)
+    (λ c. omega arith)
+    (λ c. omega arith)
+    (λ c κs. tt)
+    (λ c κs. tt)
+    (λ c. refl)
     returns
     cast-i
     commit-closure-requires
     start-requires
     give-requires
-    same-length-2
+    (λ c. search needs)
     returns-2)

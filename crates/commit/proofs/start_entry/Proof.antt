@@ -1,5 +1,4 @@
 -- `start_entry` meets its contract: the beginning, then 14.
-use borrow.Author.Needs.{needs}
 use mathlib.Core.Path.{_≡_, sym, ap, subst}
 use native.Mathlib.Omega.{arith}
 use denote.Ref.{now}
@@ -11,15 +10,6 @@ use Rattle.commit.specs.Begin.{begin-tests, Offered}
 use Rattle.commit.proofs.Laws.{start-open, start-passes}
 use Rattle.commit.proofs.start_entry.Statement.{statement}
 use Rattle.commit.proofs.start_entry.Tie as tie
-
-begin-requires : tie.Need-begin-requires
-begin-requires c κs = search needs
-
-enum-known-entry : tie.Need-enum-known-entry
-enum-known-entry c = search needs
-
-enum-told : tie.Need-enum-told
-enum-told c = search needs
 
 returns : tie.Need-returns
 unfolding refusals entry-tests start-tests
@@ -37,9 +27,6 @@ known : (c : tie.After-entry) →
     × Offered (now (args .image)) (args .state) (args .board) n (c .entry .given .0 .0)
 known c = if-taken (c .before .before .begin .ensures) (c .entry .given .1)
 
-engaged-requires : tie.Need-engaged-requires
-engaged-requires c κs = search needs
-
 returns-2 : tie.Need-returns-2
 returns-2 c =
     let number = start-open _ _ _ _ (known (c .before .before .before) .0)
@@ -55,10 +42,10 @@ pub start-entry-spec : {M : Type 1} → statement M
 start-entry-spec =
     tie.close
     (tie.spec
-    begin-requires
-    enum-known-entry
-    enum-told
+    (λ c κs. tt)
+    (λ c. omega arith)
+    (λ c. omega arith)
     returns
-    engaged-requires
+    (λ c κs. tt)
     returns-2
     returns-3)

@@ -10,8 +10,8 @@ use Rattle.reports.proofs.step.Tie as tie
 take-apart-requires : tie.Need-take-apart-requires
 take-apart-requires c κs = search needs
 
-look-requires : tie.Need-look-requires
-look-requires c κs = search needs
+to-be-decided-requires : tie.Need-to-be-decided-requires
+to-be-decided-requires c κs = search needs
 
 play-event-requires : tie.Need-play-event-requires
 play-event-requires c κs =
@@ -49,7 +49,7 @@ print-decided-requires c κs =
     let start = cleared .before .before .before .before .before .before .before in
     let able = start .pre .0 in
     let w = run-of (start .args .task .run) (start .args .area .now) in
-    let same = rw (told .report .given .1) at (looked .look .ensures) in (
+    let same = rw (told .report .given .1) at (looked .to-be-decided .ensures) in (
       rw (told .report .given .1) at (able .fits .report),
       going-commits (told .report .given .0 .0) w (rw (told .report .given .1) at (able .going)),
       rw same (decided-amounts _ _),
@@ -103,7 +103,7 @@ returns-2 c =
     let args = taken .before .before .before .before .before .before .args in
     let w = run-of (args .task .run) (args .area .now) in
     rw (told .report .given .1, ← taken .take-apart .ensures .0)
-    (page-stepped w _ (played .play-event .ensures) (rw (told .report .given .1) at (looked .look .ensures))
+    (page-stepped w _ (played .play-event .ensures) (rw (told .report .given .1) at (looked .to-be-decided .ensures))
     (printed .print-decided .ensures))
 
 pub step-spec : {M : Type 1} → statement M
@@ -111,7 +111,7 @@ step-spec =
     tie.close
     (tie.spec
     take-apart-requires
-    look-requires
+    to-be-decided-requires
     play-event-requires
     enum-told
     print-rows-requires

@@ -20,9 +20,6 @@ returns c =
     let w = state-of (args .task) (args .area .now) in
     record { output = output-none reporting w (now (args .rest)) (c .if1 .taken); written = omega arith }
 
-goes-on-requires : tie.Need-goes-on-requires
-goes-on-requires c κs = search needs
-
 returns-2 : tie.Need-returns-2
 unfolding reporting
 returns-2 c =
@@ -34,21 +31,12 @@ returns-2 c =
       written = omega arith;
     }
 
-slice-aggregate-step : tie.Need-slice-aggregate-step
-slice-aggregate-step c = search needs
-
 step-requires : tie.Need-step-requires
 step-requires c κs =
     let asked = c .before .before .before in
     let start = asked .before .before .before .before .before .before in
     let going = sym (asked .before .goes-on .ensures (start .args .area .now)) ∙ not-false _ (asked .if2 .left) in
     (record { fits = start .pre .1; going = going; whole = start .pre .2 }, omega (arith, start .pre .3), omega arith)
-
-same-length : tie.Need-same-length
-same-length c = search needs
-
-same-length-2 : tie.Need-same-length-2
-same-length-2 c = search needs
 
 returns-3 : tie.Need-returns-3
 returns-3 c =
@@ -70,10 +58,10 @@ last-step-spec =
     tie.close
     (tie.spec
     returns
-    goes-on-requires
+    (λ c κs. tt)
     returns-2
-    slice-aggregate-step
+    (λ c. omega arith)
     step-requires
-    same-length
-    same-length-2
+    (λ c. search needs)
+    (λ c. search needs)
     returns-3)

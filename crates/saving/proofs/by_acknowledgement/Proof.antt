@@ -1,5 +1,4 @@
 -- `by_acknowledgement` meets its contract: what its tests refuse decides nothing, else its commit, if it is complete.
-use borrow.Author.Needs.{needs}
 use mathlib.Core.Path.{_≡_, refl, _∙_, ap}
 use native.Mathlib.Omega.{arith}
 use denote.Ref.{now}
@@ -9,18 +8,9 @@ use Rattle.entry.specs.Tested.{entry-says}
 use Rattle.entry.proofs.Laws.{small, if-taken, if-refused}
 use Rattle.commit.specs.Begin.{Offered}
 use Rattle.page.proofs.Decisions.{acknowledge-gives}
-use Rattle.saving.proofs.Laws.{refused-nothing, completed-decides}
+use Rattle.saving.proofs.Laws.{refused-nothing, acknowledged-decides}
 use Rattle.saving.proofs.by_acknowledgement.Statement.{statement}
 use Rattle.saving.proofs.by_acknowledgement.Tie as tie
-
-acknowledge-entry-requires : tie.Need-acknowledge-entry-requires
-acknowledge-entry-requires c κs = search needs
-
-enum-known-entry : tie.Need-enum-known-entry
-enum-known-entry c = search needs
-
-enum-told : tie.Need-enum-told
-enum-told c = search needs
 
 returns : tie.Need-returns
 returns c =
@@ -43,8 +33,8 @@ cast-i c = omega (arith, small (known (c .before) .1 .entry))
 acknowledge-requires : tie.Need-acknowledge-requires
 acknowledge-requires c κs = small (known (c .before) .1 .entry)
 
-completed-requires : tie.Need-completed-requires
-completed-requires c κs =
+if-all-acknowledged-requires : tie.Need-if-all-acknowledged-requires
+if-all-acknowledged-requires c κs =
     let shaped = known (c .before .before) .1 .entry .shaped in
     (shaped .allowed-shape, shaped .long)
 
@@ -54,19 +44,19 @@ returns-2 c =
     let opened = next .before .before in
     let args = opened .before .before .before .before .before .args in
     let passed = known opened in
-    c .completed .ensures
-    ∙ completed-decides (now (args .image)) (args .state) (args .k) (acknowledge-gives _ _ _ _ (passed .0))
+    c .if-all-acknowledged .ensures
+    ∙ acknowledged-decides (now (args .image)) (args .state) (args .k) (acknowledge-gives _ _ _ _ (passed .0))
     (next .acknowledge .ensures) (passed .1 .entry .shaped .shape)
 
 pub by-acknowledgement-spec : {M : Type 1} → statement M
 by-acknowledgement-spec =
     tie.close
     (tie.spec
-    acknowledge-entry-requires
-    enum-known-entry
-    enum-told
+    (λ c κs. tt)
+    (λ c. omega arith)
+    (λ c. omega arith)
     returns
     cast-i
     acknowledge-requires
-    completed-requires
+    if-all-acknowledged-requires
     returns-2)

@@ -1,5 +1,4 @@
 -- `by_start` meets its contract: what its tests refuse decides nothing, else its group does, if it is complete.
-use borrow.Author.Needs.{needs}
 use mathlib.Core.Path.{_≡_, refl, _∙_, ap}
 use native.Mathlib.Omega.{arith}
 use denote.Ref.{now}
@@ -10,18 +9,9 @@ use Rattle.entry.proofs.Laws.{small, if-taken, if-refused}
 use Rattle.commit.specs.Begin.{Offered}
 use Rattle.commit.proofs.Laws.{started}
 use Rattle.page.proofs.Decisions.{start-gives}
-use Rattle.saving.proofs.Laws.{refused-nothing, completed-decides}
+use Rattle.saving.proofs.Laws.{refused-nothing, acknowledged-decides}
 use Rattle.saving.proofs.by_start.Statement.{statement}
 use Rattle.saving.proofs.by_start.Tie as tie
-
-start-entry-requires : tie.Need-start-entry-requires
-start-entry-requires c κs = search needs
-
-enum-known-entry : tie.Need-enum-known-entry
-enum-known-entry c = search needs
-
-enum-told : tie.Need-enum-told
-enum-told c = search needs
 
 returns : tie.Need-returns
 returns c =
@@ -47,8 +37,8 @@ commit-closure-requires c κs = small (known (c .before .before) .1 .entry)
 start-requires : tie.Need-start-requires
 start-requires c κs = small (known (c .before .before .before) .1 .entry)
 
-completed-requires : tie.Need-completed-requires
-completed-requires c κs =
+if-all-acknowledged-requires : tie.Need-if-all-acknowledged-requires
+if-all-acknowledged-requires c κs =
     let shaped = known (c .before .before .before .before) .1 .entry .shaped in
     (shaped .allowed-shape, shaped .long)
 
@@ -59,8 +49,8 @@ returns-2 c =
     let opened = grouped .before .before .before in
     let args = opened .before .before .before .before .before .args in
     let passed = known opened in
-    c .completed .ensures
-    ∙ completed-decides (now (args .image)) (args .state) (args .k) (start-gives _ _ _ _ (passed .0))
+    c .if-all-acknowledged .ensures
+    ∙ acknowledged-decides (now (args .image)) (args .state) (args .k) (start-gives _ _ _ _ (passed .0))
     (started (args .state) (args .board) (next .start .ensures) (grouped .commit-closure .ensures .members))
     (passed .1 .entry .shaped .shape)
 
@@ -68,12 +58,12 @@ pub by-start-spec : {M : Type 1} → statement M
 by-start-spec =
     tie.close
     (tie.spec
-    start-entry-requires
-    enum-known-entry
-    enum-told
+    (λ c κs. tt)
+    (λ c. omega arith)
+    (λ c. omega arith)
     returns
     cast-i
     commit-closure-requires
     start-requires
-    completed-requires
+    if-all-acknowledged-requires
     returns-2)

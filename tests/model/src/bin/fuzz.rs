@@ -127,7 +127,7 @@ fn compare(programs: [&str; 2], count: u64, seed: u64, folder: &Path) -> Result<
 fn too_many_lines() -> Vec<u8> {
     let mut events = b"F,2,1,2,1\nW,0,0,07\n".to_vec();
     events.extend(b"U\nW,0,1,01\n".repeat(49_996));
-    events.extend(b"U\nW,0,1,05\nW,1,0,06\nZ,1\nX,0\nU\nR,0,0,1\n");
+    events.extend(b"U\nW,0,1,05\nC,1,06\nZ,1\nX,0\nC,0,07\nR,0,0,1\n");
     events
 }
 

@@ -14,7 +14,7 @@ returns : tie.Need-returns
 returns c =
     let run = c .before .new .ensures in
     let totals = c .no-totals .ensures in
-    (record { image = omega (arith, run .0); report = totals .1 }, rw (run .1, totals .0))
+    (record { image = omega (arith, run .0); report = totals .1 }, λ area. rw (run .1 area, totals .0))
 
 pub page-spec : {M : Type 1} → statement M
 page-spec = tie.close (tie.spec new-requires no-totals-requires returns)

@@ -9,7 +9,7 @@ off-requires c κs = tt
 
 returns : tie.Need-returns
 unfolding start
-returns c = (refl, rw (c .off .ensures))
+returns c = (refl, λ area. rw (c .off .ensures))
 
 pub new-spec : {M : Type 1} → statement M
 new-spec = tie.close (tie.spec off-requires returns)

@@ -1,12 +1,12 @@
--- `completed` meets its contract.
+-- `if_all_acknowledged` meets its contract.
 use borrow.Author.Needs.{needs}
 use mathlib.Core.Path.{_∙_, ap}
 use native.Mathlib.Omega.{arith}
 use Rattle.layout.proofs.Laws.{bounded}
 use Rattle.page.specs.declared.Decided.the-variants.{Commit}
 use Rattle.saving.proofs.Laws.{not-all, too-short, all-of-them}
-use Rattle.saving.proofs.completed.Statement.{statement}
-use Rattle.saving.proofs.completed.Tie as tie
+use Rattle.saving.proofs.if_all_acknowledged.Statement.{statement}
+use Rattle.saving.proofs.if_all_acknowledged.Tie as tie
 
 commit-of-requires : tie.Need-commit-of-requires
 commit-of-requires c κs = search needs
@@ -32,6 +32,6 @@ returns-3 c =
     ap Commit (c .saved .ensures)
     ∙ rw named (all-of-them _ _ _ _ _ (rw named at (kept .before .if1 .left)) (omega (arith, c .before .if2 .left)))
 
-pub completed-spec : {M : Type 1} → statement M
-completed-spec =
+pub if-all-acknowledged-spec : {M : Type 1} → statement M
+if-all-acknowledged-spec =
     tie.close (tie.spec commit-of-requires returns add-if2 returns-2 saved-requires returns-3)

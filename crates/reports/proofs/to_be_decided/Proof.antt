@@ -1,8 +1,8 @@
--- `look` meets its contract: for a page what `decided_by` found.
+-- `to_be_decided` meets its contract: for a page what `decided_by` found.
 use native.Mathlib.Nat.{sub-zero}
 use borrow.Author.Needs.{needs}
-use Rattle.reports.proofs.look.Statement.{statement}
-use Rattle.reports.proofs.look.Tie as tie
+use Rattle.reports.proofs.to_be_decided.Statement.{statement}
+use Rattle.reports.proofs.to_be_decided.Tie as tie
 
 enum-told : tie.Need-enum-told
 enum-told c = search needs
@@ -30,8 +30,8 @@ returns-2 c =
     let told = c .before .before .before in
     rw (told .enum-told .given .1) (rw sub-zero at (c .decided-by .ensures))
 
-pub look-spec : {M : Type 1} → statement M
-look-spec =
+pub to-be-decided-spec : {M : Type 1} → statement M
+to-be-decided-spec =
     tie.close
     (tie.spec
     enum-told

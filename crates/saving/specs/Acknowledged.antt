@@ -11,7 +11,7 @@ use Rattle.page.specs.declared.Decided.{Decided}
 use Rattle.page.specs.declared.Decided.the-variants.{Nothing, Commit}
 
 -- board i has acknowledged, which gave the record r; k stores are allowed
-unfoldable pub completed : Shape → Memory → Record → ℕ → ℕ → Decided
-completed s m r i k =
+unfoldable pub if-all-acknowledged : Shape → Memory → Record → ℕ → ℕ → Decided
+if-all-acknowledged s m r i k =
     let c = commit-of r i in
     cond (eqb (c .acknowledged) (c .members) && leb (s .context + 3) k) (Commit (saved s m (c .members))) Nothing
