@@ -1,6 +1,6 @@
 // How a run ends: at the limit of 99,999 lines, whose last is cut, by errors of the system, and a page at these and at
-// its limit of 9,999 commits. Each run is told in a line, and the last lines of some follow. The long events and what is
-// printed of them are files of the folder that the program is run in.
+// its limit of 9,999 commits. Each run is told in a line, and the last lines of some follow. The long events and what
+// is printed of them are files of the folder that the program is run in.
 use reports::Task;
 use stream::Ended;
 ghost use Rattle.reports.specs.Tasks.{Fits};

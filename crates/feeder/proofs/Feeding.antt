@@ -59,9 +59,10 @@ stopped Unfinished v rest written out u = u .1
 stopped Full v rest written out u = tt
 stopped Limit v rest written out u = λ l. ends-steps v l u
 
-unfinished : (stop : Stop) (v : State) (rest : List ℕ) (written : ℕ) (out : List ℕ) →
+-- where no line feed is left
+unbroken-so : (stop : Stop) (v : State) (rest : List ℕ) (written : ℕ) (out : List ℕ) →
     Stops stop v rest written out → stop ≡ Unfinished → Unbroken rest
-unfinished stop v rest written out u e = subst (λ s. Stops s v rest written out) e u .1
+unbroken-so stop v rest written out u e = subst (λ s. Stops s v rest written out) e u .1
 
 -- why the lines stopped, seen from what is kept of the rest
 still : (stop : Stop) (v : State) {rest : List ℕ} {held : ℕ} {input : List ℕ} (written : ℕ) (out : List ℕ) →
@@ -92,7 +93,7 @@ fed w input {end} {p} {area} {out} {after} {held} long l played k =
       stops = still (p .stop) v (p .written) out k why;
       kept =
           kept-on k (omega (arith, length-drop (p .read) (take end input), length-take-le end input l))
-          (unfinished (p .stop) v rest (p .written) out why);
+          (unbroken-so (p .stop) v rest (p .written) out why);
       written = done .written;
       fits = done .fits;
     }

@@ -25,5 +25,6 @@ full-answers-18 t c r =
       full =
           λ e.
           let none = le-ltb (t .commits) most-commits (omega arith) in
-          rw (none, lt-leb (suc (t .commits)) most-commits (omega arith)) (refl, refl, refl, refl, and-false (ltb (r .played) most-lines) refl);
+          let over = lt-leb (suc (t .commits)) most-commits (omega arith) in
+          rw (none, over) (refl, refl, refl, refl, and-false (ltb (r .played) most-lines) refl);
     }

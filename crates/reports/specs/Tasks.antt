@@ -61,7 +61,8 @@ event-text (Page-state p) e = decided-text (p .totals) (decided-by (p .run .play
 unfoldable pub state-after : State → Event → State
 state-after (Rows-state w) e = Rows-state (run-after w e)
 state-after (Page-state p) e =
-    Page-state (record { run = run-after (p .run) e; totals = totals-after (p .totals) (decided-by (p .run .player) e) })
+    let d = decided-by (p .run .player) e in
+    Page-state (record { run = run-after (p .run) e; totals = totals-after (p .totals) d })
 
 -- the text of an event stands in the output from `at` on
 pub record Stepped-on (v : State) (e : Event) (at : ℕ) (before : List ℕ) (r : Stepped) (area after : List ℕ) : Type 0

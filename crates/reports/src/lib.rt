@@ -93,7 +93,8 @@ fn to_be_decided(
     buffer: &[u8],
 ) -> Decided
     requires { ⌜ (session .length ≤ length (now area)) × (counted line ≤ length (now buffer)) ⌝ }
-    ensures { λ r. ⌜ To-be-decided report (player-of session (now (area .entry))) (meant line (now (buffer .entry))) r ⌝ }
+    ensures { λ r. ⌜ To-be-decided report (player-of session (now (area .entry)))
+        (meant line (now (buffer .entry))) r ⌝ }
 {
     let Report::Page(_) = report else {
         return Decided::Nothing;
