@@ -24,6 +24,7 @@ pub struct Added {
     pub totals: Totals,
 }
 
+// Before the first commit.
 pub fn no_totals() -> Totals
     ensures { λ r. ⌜ (r ≡ no-totals) × Small r ⌝ }
 {
