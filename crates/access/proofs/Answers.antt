@@ -1,9 +1,9 @@
 -- A read and a write that are taken, and a read that is refused.
-use Prim.Native.Nat.{ℕ, suc, _+_, _/_, _≤_, _<_}
+use Prim.Native.Nat.{ℕ, _+_, _-_, _/_, _≤_, _<_}
 use mathlib.Core.Path.{_≡_, refl, sym, _∙_, ap, ap₂, subst, subst⁻¹}
 use mathlib.Core.Bool.{Bool, true, false, cond}
-use mathlib.Core.List.{List, [], _∷_, _++_, map, map-append}
-use mathlib.Core.Logic.{_≢_}
+use mathlib.Core.List.{List, [], _∷_, _++_, map, map-append, append-nil}
+use mathlib.Core.Logic.{_≢_, _⊎_, inl, inr, ⊎-elim}
 use lib.Dec.{eqb}
 use lib.ListN.{length, getD}
 use lib.Seq.{take-nil}
@@ -12,9 +12,9 @@ use native.Mathlib.Numerals.{add-one}
 use native.Mathlib.Omega.{arith}
 use borrow.Author.Tests.{le-ltb}
 use Rattle.boards.specs.Lists.{span, anyOf}
-use Rattle.protocol.specs.Accesses.{board-of, touched, read-binding, write-binding, bind-tag}
+use Rattle.protocol.specs.Accesses.{board-of, touched, read-binding, write-binding, bind-blocks}
 use Rattle.protocol.specs.declared.Binding.{Binding}
-use Rattle.protocol.specs.declared.Binding.the-variants.{OneWay}
+use Rattle.protocol.specs.declared.Binding.the-variants.{OneWay, TwoWay, Opposite}
 use Rattle.protocol.specs.Image.{Current, Tags, Store, Put, raw, size, base, total, shape-of, view}
 use Rattle.volatile.specs.Volatile.{depend}
 use Rattle.protocol.specs.Calls.{Read, Write, refusal-at, refusal-of, tagging, placing, plan, refused, record-refused}
@@ -23,7 +23,7 @@ use Rattle.protocol.specs.declared.Shape.{Shape}
 use Rattle.protocol.specs.declared.Requester.{Requester}
 use Rattle.volatile.specs.declared.Record.{Record}
 use Rattle.protocol.specs.declared.Reply.{Reply}
-use Rattle.boards.proofs.Basics.{length-span, span-same}
+use Rattle.boards.proofs.Basics.{decide, length-span, span-same}
 use Rattle.protocol.proofs.Bridge.{view-at}
 use Rattle.protocol.proofs.Outcomes.{taken, turned-down}
 use Rattle.protocol.proofs.Plans.{ranged, write-inside, inside-quiet}
@@ -34,19 +34,21 @@ use Rattle.store.specs.Promise.{Answered, Performed, reply-of}
 use Rattle.store.proofs.Laws.{makes-none}
 use Rattle.store.proofs.Areas.{placing-stores}
 use Rattle.store.proofs.Ends.{ended, turned}
-use Rattle.layout.proofs.Laws.{bounded}
+use Rattle.layout.proofs.Laws.{bounded, tag-read}
 use Rattle.entry.proofs.Laws.{small}
 use Rattle.admission.specs.declared.Place.{Place}
 use Rattle.admission.specs.Places.{Placed}
-use Rattle.admission.proofs.Touched.{touched-one, whole-one, bind-one}
-use Rattle.admission.proofs.Tests.{block-of}
-use Rattle.access.specs.Leaves.{filled-from, tag-store, binding-of}
+use Rattle.admission.proofs.Extent.{whole-touched, bind-touched}
+use Rattle.admission.proofs.Tests.{blocks-below}
+use Rattle.access.specs.Leaves.{bound, filled-from, tag-store, first-tag-store, last-tag-store, binding-of}
 
 -- the place of an access lies in the image, and its board is one of sixteen
 pub record Within (image : List ℕ) (n : ℕ) (p : Place) : Type 0 where
   pub board : p .board < 16
-  pub tag : p .tag ≤ 16
-  pub block : 12 + p .block < length image
+  pub first-tag : p .first .tag ≤ 16
+  pub last-tag : p .last .tag ≤ 16
+  pub first-block : 12 + p .first .number < length image
+  pub last-block : 12 + p .last .number < length image
   pub cells : p .at + n ≤ length image
 
 pub within : {image : List ℕ} {r : Record} {who : Requester} {a n room : ℕ} {p : Place} → Placed image r who a n room p
@@ -55,15 +57,32 @@ unfolding base total
 within {image} {a = a} {n = n} k =
     let s = shape-of image in
     let shaped = k .entry .shaped in
+    let long = shaped .long in
     let area = ranged s a n (k .range) in
-    let block = block-of s a (shaped .allowed-shape) (omega (arith, area)) in
+    let below = blocks-below s a n (shaped .allowed-shape) (k .range) in
     let size = bounded (shaped .allowed-shape) in
     record {
-      board = subst (λ i. i < 16) (sym (k .board)) (small (k .entry));
-      tag = omega (arith, k .tag-known, size);
-      block = omega (arith, shaped .long, k .block);
-      cells = omega (arith, shaped .long, k .begins, area);
+      board = subst (λ i. i < 16) (sym (ap (λ (p : Place). p .board) (k .place))) (small (k .entry));
+      first-tag = omega (arith, k .first-known, size);
+      last-tag = omega (arith, k .last-known, size);
+      first-block = omega (arith, long, below .first, ap (λ (p : Place). p .first .number) (k .place));
+      last-block = omega (arith, long, below .last, ap (λ (p : Place). p .last .number) (k .place));
+      cells = omega (arith, long, area, ap (λ (p : Place). p .at) (k .place));
     }
+
+-- the links of an access that binds alike in each of its blocks
+bound-touched : {image : List ℕ} {r : Record} {who : Requester} {a n room : ℕ} {p : Place} → Placed image r who a n room p
+    → (how : ℕ → Binding) (kind : Binding) →
+    let s = shape-of image in
+    how (a / s .size) ≡ kind → how ((a + n - 1) / s .size) ≡ kind
+    → bound kind p r ≡ bind-blocks depend how (view s image Tags) r (board-of s who) (touched s a n)
+bound-touched {image} {r} {who} {a} {n} {p = p} k how kind f l =
+    let s = shape-of image in
+    let i = board-of s who in
+    let below = blocks-below s a n (k .entry .shaped .allowed-shape) (k .range) in
+    ap (λ p. bound kind p r) (k .place)
+    ∙ rw (← tag-read s image (a / s .size) (below .first), ← tag-read s image ((a + n - 1) / s .size) (below .last))
+    (sym (bind-touched s a n how kind (view s image Tags) r i f l))
 
 -- ---- a read
 
@@ -94,20 +113,19 @@ module _ {image : List ℕ} {r : Record} (who : Requester) (a n : ℕ) (buffer :
 
   pub read-done : (room : ℕ) {p : Place} {b : Budget} {next : Record} {reply : Reply} {after : List ℕ}
       → (refusal-at image r (Read who a n room) ≡ 0) × Placed image r who a n room p
-      → next ≡ bind-tag depend OneWay r (p .board) (p .tag) → after ≡ filled-from image (p .at) n buffer → b ≡ start 0
+      → next ≡ bound OneWay p r → after ≡ filled-from image (p .at) n buffer → b ≡ start 0
       → reply ≡ reply-of 0 b false 0 next → Answered (Read who a n room) image r buffer reply after
   unfolding executed plan anyOf size read-binding
   read-done room {p} {next = next} known q f new g =
       let s = shape-of image in
       let k = known .1 in
-      let bound = q ∙ ap₂ (bind-tag depend OneWay r) (k .board) (k .tag)
-      ∙ sym (bind-one s (view s image) a n (k .range) read-binding r (board-of s who)) in
+      let begins = ap (λ (p : Place). p .at) (k .place) in
       let whole = g ∙ ap (λ b. reply-of 0 b false 0 next) new in
-      let bytes = filled-current s image buffer (p .at) a n (k .begins) (ranged s a n (k .range) .within) in
+      let bytes = filled-current s image buffer (p .at) a n begins (ranged s a n (k .range) .within) in
       record {
         reply = λ b.
-            ended r (Read who a n room) refl (known .0) refl (makes-none (start b) image) (rw take-nil) refl bound
-            (whole ∙ none-spent b next) .reply;
+            ended r (Read who a n room) refl (known .0) refl (makes-none (start b) image) (rw take-nil) refl
+            (q ∙ bound-touched k read-binding OneWay refl refl) (whole ∙ none-spent b next) .reply;
         buffer = λ b.
             let o = ap (λ o. filled (o .bytes) buffer) (taken image refl r (Read who a n room) (known .0) b) in
             f ∙ bytes ∙ sym (rw (le-ltb b 0 (omega arith)) at o);
@@ -115,10 +133,11 @@ module _ {image : List ℕ} {r : Record} (who : Requester) (a n : ℕ) (buffer :
 
 -- ---- a write
 
--- one tag, stored or not
-one-tag : (f : Put → Store) (b : Bool) (t : Put) → map f (cond b [] (t ∷ []) ++ []) ≡ cond b [] (f t ∷ [])
-one-tag f true t = refl
-one-tag f false t = refl
+-- one tag, stored or not, and what follows it
+one-tag : (f : Put → Store) (b : Bool) (t : Put) (rest : List Put)
+    → map f (cond b [] (t ∷ []) ++ rest) ≡ cond b [] (f t ∷ []) ++ map f rest
+one-tag f true t rest = refl
+one-tag f false t rest = refl
 
 module _ {image : List ℕ} {r : Record} (who : Requester) (a : ℕ) (bytes : List ℕ) {p : Place} {room : ℕ}
     (k : Placed image r who a (length bytes) room p)
@@ -127,51 +146,55 @@ module _ {image : List ℕ} {r : Record} (who : Requester) (a : ℕ) (bytes : Li
     i = board-of (shape-of image) who
 
     -- the stores of a write's plan, as the code makes them
-    tag-stored : let s = shape-of image in
-        map (raw s) (tagging (view s image) i (touched s a (length bytes))) ≡ tag-store p
-    unfolding tagging tag-store raw base
-    tag-stored =
+    tags-stored : let s = shape-of image in
+        map (raw s) (tagging (view s image) i (touched s a (length bytes))) ≡ first-tag-store p ++ last-tag-store p
+    unfolding touched tagging first-tag-store last-tag-store tag-store raw base
+    tags-stored =
         let s = shape-of image in
-        rw (
-          touched-one s a (length bytes) (k .range),
-          one-tag (raw s) (eqb (view s image Tags (a / s .size)) (suc i)) _,
-          k .tag,
-          k .block,
-          k .board,
-          add-one,
-        )
+        let first = a / s .size in
+        let last = (a + length bytes - 1) / s .size in
+        let below = blocks-below s a (length bytes) (k .entry .shaped .allowed-shape) (k .range) in
+        let one = tag-read s image first (below .first) in
+        let two = tag-read s image last (below .last) in
+        ⊎-elim
+        (λ (e : eqb first last ≡ true). rw (e, one-tag (raw s), one, add-one))
+        (λ (e : eqb first last ≡ false). rw (e, one-tag (raw s), one-tag (raw s), one, two, append-nil, add-one))
+        (decide (eqb first last))
+        ∙ sym (ap (λ p. first-tag-store p ++ last-tag-store p) (k .place))
 
     write-stores : let s = shape-of image in
         map (raw s) (plan s (view s image) r (Write who a bytes) .stores)
-        ≡ tag-store p ++ put-stores (p .at) bytes
+        ≡ (first-tag-store p ++ last-tag-store p) ++ put-stores (p .at) bytes
     unfolding plan
     write-stores =
         let s = shape-of image in
         map-append (raw s) (tagging (view s image) i (touched s a (length bytes))) (placing Current a bytes)
-        ∙ ap₂ (λ x y. x ++ y) tag-stored (placing-stores s Current a (p .at) bytes (k .begins))
+        ∙ ap₂ (λ x y. x ++ y) tags-stored
+        (placing-stores s Current a (p .at) bytes (ap (λ (p : Place). p .at) (k .place)))
 
-    -- its kind of binding, as the code chooses it
-    bound-as : let s = shape-of image in binding-of p (length bytes) ≡ write-binding s a (length bytes) (a / s .size)
+    -- its kind of binding in a touched block, as the code chooses it
+    bound-as : let s = shape-of image in
+        let n = length bytes in
+        (b : ℕ) → (b ≡ a / s .size) ⊎ (b ≡ (a + n - 1) / s .size) → write-binding s a n b ≡ binding-of p n
     unfolding write-binding
-    bound-as =
+    bound-as b q =
         let s = shape-of image in
+        let n = length bytes in
         let some = bounded (k .entry .shaped .allowed-shape) .limits .some-size in
-        rw (k .block-size, whole-one s a (length bytes) some (k .range))
+        ap (λ w. cond w Opposite TwoWay) (whole-touched s a n some (ranged s a n (k .range)) b q)
+        ∙ sym (ap (λ p. binding-of p n) (k .place))
 
     pub write-done : {m : ℕ} {b left : Budget} {how : Binding} {next : Record} {reply : Reply} {after : List ℕ}
-        → refusal-at image r (Write who a bytes) ≡ 0 → how ≡ binding-of p (length bytes)
-        → next ≡ bind-tag depend how r (p .board) (p .tag) → b ≡ start m
-        → Makes (tag-store p ++ put-stores (p .at) bytes) b image left after
+        → refusal-at image r (Write who a bytes) ≡ 0 → how ≡ binding-of p (length bytes) → next ≡ bound how p r
+        → b ≡ start m → Makes ((first-tag-store p ++ last-tag-store p) ++ put-stores (p .at) bytes) b image left after
         → reply ≡ reply-of m left false 0 next → Performed (Write who a bytes) m image r reply after
     unfolding plan
     write-done {m} {b} {left} {how} {after = after} z e q new h g =
         let s = shape-of image in
         let n = length bytes in
-        let shaped = k .entry .shaped in
-        let bound = q ∙ ap (λ i. bind-tag depend how r i (p .tag)) (k .board)
-        ∙ ap₂ (λ how t. bind-tag depend how r i t) (e ∙ bound-as) (k .tag)
-        ∙ sym (bind-one s (view s image) a n (k .range) (write-binding s a n) r i) in
-        let some = bounded (shaped .allowed-shape) .limits .some-size in
+        let links = q ∙ bound-touched k (write-binding s a n) how (bound-as (a / s .size) (inl refl) ∙ sym e)
+        (bound-as ((a + n - 1) / s .size) (inr refl) ∙ sym e) in
+        let some = bounded (k .entry .shaped .allowed-shape) .limits .some-size in
         let inside = write-inside s (view s image) i a bytes some (ranged s a n (k .range)) in
         ended r (Write who a bytes) refl z new (subst⁻¹ (λ ss. Makes ss b image left after) write-stores h)
-        (inside-quiet s m inside) refl bound g
+        (inside-quiet s m inside) refl links g

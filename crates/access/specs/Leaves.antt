@@ -1,13 +1,17 @@
--- What the leaves of a read and of a write do: an answer buffer filled, a tag stored, the kind of binding chosen.
+-- What the leaves of a read and of a write do: an answer buffer filled, tags stored, boards bound.
 use Prim.Native.Nat.{ℕ, _+_}
-use mathlib.Core.Bool.{cond}
+use mathlib.Core.Bool.{_&&_, cond}
 use mathlib.Core.List.{List, [], _∷_, _++_}
-use lib.Dec.{eqb}
+use lib.Dec.{eqb, leb}
 use lib.ListN.{getD, drop}
 use Rattle.boards.specs.Lists.{span}
 use Rattle.protocol.specs.Image.{Store}
 use Rattle.layout.specs.Headers.{tags-at}
 use Rattle.store.specs.Budget.{one}
+use Rattle.volatile.specs.Volatile.{depend}
+use Rattle.volatile.specs.declared.Record.{Record}
+use Rattle.protocol.specs.Accesses.{bind-tag}
+use Rattle.admission.specs.declared.Block.{Block}
 use Rattle.admission.specs.declared.Place.{Place}
 use Rattle.protocol.specs.declared.Binding.{Binding}
 use Rattle.protocol.specs.declared.Binding.the-variants.{TwoWay, Opposite}
@@ -16,10 +20,23 @@ use Rattle.protocol.specs.declared.Binding.the-variants.{TwoWay, Opposite}
 unfoldable pub filled-from : List ℕ → ℕ → ℕ → List ℕ → List ℕ
 filled-from image at n buffer = span (λ x. getD image x 0) at n ++ drop n buffer
 
--- the tag of a place, if it is not the writer's
-unfoldable pub tag-store : Place → List Store
-tag-store p = cond (eqb (p .tag) (p .board + 1)) [] (one (tags-at + p .block) (p .board + 1) ∷ [])
+-- the writer's tag, stored in a block that has another
+unfoldable pub tag-store : ℕ → Block → List Store
+tag-store own b = cond (eqb (b .tag) own) [] (one (tags-at + b .number) own ∷ [])
 
--- how a write of n bytes at a place binds
+-- in the first block of a place; in the last, if that is another
+unfoldable pub first-tag-store : Place → List Store
+first-tag-store p = tag-store (p .board + 1) (p .first)
+
+unfoldable pub last-tag-store : Place → List Store
+last-tag-store p = cond (eqb (p .first .number) (p .last .number)) [] (tag-store (p .board + 1) (p .last))
+
+-- how a write of n bytes at a place binds in each of its blocks
 abbrev pub binding-of : Place → ℕ → Binding
-binding-of p n = cond (eqb n (p .size)) Opposite TwoWay
+binding-of p n = cond (leb (p .size) n && eqb (p .first .number) (p .last .number)) Opposite TwoWay
+
+-- the record after an access that binds so in its first block and, if that is another, in the last
+abbrev pub bound : Binding → Place → Record → Record
+bound how p r =
+    let next = bind-tag depend how r (p .board) (p .first .tag) in
+    cond (eqb (p .first .number) (p .last .number)) next (bind-tag depend how next (p .board) (p .last .tag))

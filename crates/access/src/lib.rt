@@ -1,5 +1,6 @@
 // Reads and writes, by a board and by the port.
 use admission::Admission;
+use admission::Block;
 use admission::Place;
 use admission::admit;
 use admission::admit_write;
@@ -27,7 +28,7 @@ ghost use Rattle.layout.specs.Headers.{tags-at};
 ghost use Rattle.store.specs.Budget.{Makes};
 ghost use Rattle.store.specs.Runs.{put-stores};
 ghost use Rattle.store.specs.Promise.{Performed, Answered};
-ghost use Rattle.access.specs.Leaves.{filled-from, tag-store, binding-of};
+ghost use Rattle.access.specs.Leaves.{bound, filled-from, tag-store, first-tag-store, last-tag-store, binding-of};
 
 // An access of a block with this tag binds the board and the writer, if that is another board.
 fn bind(state: Record, how: Binding, i: u8, tag: u8) -> Record
@@ -48,6 +49,19 @@ fn bind(state: Record, how: Binding, i: u8, tag: u8) -> Record
     forth.depend(j, i)
 }
 
+// An access binds its board in its first block and, if that is another, in the last.
+fn bind_blocks(state: Record, how: Binding, p: Place) -> Record
+    requires { ⌜ (p .board < 16) × (p .first .tag ≤ 16) × (p .last .tag ≤ 16) ⌝ }
+    ensures { λ r. ⌜ r ≡ bound how p state ⌝ }
+{
+    let last = p.last;
+    let next = bind(state, how, p.board, p.first.tag);
+    if p.first.number == last.number {
+        return next;
+    }
+    bind(next, how, p.board, last.tag)
+}
+
 // The first n bytes of the buffer become those of the image from `at` on.
 fn fill(image: &[u8], at: usize, n: usize, buffer: &mut [u8])
     requires { ⌜ (at + n ≤ length (now image)) × (n ≤ length (now buffer)) ⌝ }
@@ -60,7 +74,7 @@ fn fill(image: &[u8], at: usize, n: usize, buffer: &mut [u8])
 }
 
 // The first n bytes of the buffer become the current bytes from the cell on; the requester's board comes to depend on
-// their writer.
+// the active writer of each block.
 fn read_by(
     image: &[u8],
     state: Record,
@@ -76,7 +90,7 @@ fn read_by(
     let Admission::Taken(p) = admission else {
         return refusal(admission.number(), state);
     };
-    let next = bind(state, Binding::OneWay, p.board, p.tag);
+    let next = bind_blocks(state, Binding::OneWay, p);
     fill(image, p.at, n, buffer);
     let none = Budget::new(0);
     finish(0, none, false, 0, next)
@@ -105,40 +119,56 @@ pub fn port_read(image: &[u8], state: Record, cell: usize, n: usize, buffer: &mu
     read_by(image, state, Requester::Port, cell, n, buffer)
 }
 
-// The tag of the block, if it is not the writer's.
-fn put_tag(image: &mut [u8], p: Place, k: Budget) -> Budget
-    requires { ⌜ (tags-at + p .block < length (now image)) × (p .board < 16) ⌝ }
-    ensures { λ r. ⌜ Makes (tag-store p) k (now (image .entry)) r (now (image .exit)) ⌝ }
+// The block's tag becomes the writer's, if it is another.
+fn put_tag(image: &mut [u8], block: Block, own: u8, k: Budget) -> Budget
+    requires { ⌜ tags-at + block .number < length (now image) ⌝ }
+    ensures { λ r. ⌜ Makes (tag-store own block) k (now (image .entry)) r (now (image .exit)) ⌝ }
 {
-    let own = p.board + 1;
-    if p.tag == own {
+    if block.tag == own {
         return k;
     }
-    store(image, TAGS + p.block, own, k)
+    store(image, TAGS + block.number, own, k)
 }
 
-// The tag, then the bytes, ascending.
+// The last block's tag, if that is another block than the first.
+fn put_last_tag(image: &mut [u8], p: Place, k: Budget) -> Budget
+    requires { ⌜ (tags-at + p .last .number < length (now image)) × (p .board < 16) ⌝ }
+    ensures { λ r. ⌜ Makes (last-tag-store p) k (now (image .entry)) r (now (image .exit)) ⌝ }
+{
+    let last = p.last;
+    if p.first.number == last.number {
+        return k;
+    }
+    put_tag(image, last, p.board + 1, k)
+}
+
+// The tags that differ, the first block's first; then the bytes, ascending.
 fn put_bytes(image: &mut [u8], p: Place, bytes: &[u8], k: Budget) -> Budget
-    requires { ⌜ (tags-at + p .block < length (now image)) × (p .at + length (now bytes) ≤ length (now image))
-        × (p .board < 16) ⌝ }
-    ensures { λ r. ⌜ Makes (tag-store p ++ put-stores (p .at) (now (bytes .entry))) k
+    requires { ⌜ (tags-at + p .first .number < length (now image)) × (tags-at + p .last .number < length (now image))
+        × (p .at + length (now bytes) ≤ length (now image)) × (p .board < 16) ⌝ }
+    ensures { λ r. ⌜ Makes ((first-tag-store p ++ last-tag-store p) ++ put-stores (p .at) (now (bytes .entry))) k
         (now (image .entry)) r (now (image .exit)) ⌝ }
 {
-    let tagged = put_tag(image, p, k);
-    put_all(image, p.at, bytes, tagged)
+    let first = p.first;
+    let one = put_tag(image, first, p.board + 1, k);
+    let both = put_last_tag(image, p, one);
+    put_all(image, p.at, bytes, both)
 }
 
-// How a write of n bytes binds in its block, which may be the whole of it.
+// How a write of n bytes binds in each of its blocks. It overwrites a block whole only if it touches no other.
 fn binding_of(p: Place, n: usize) -> Binding
     ensures { λ r. ⌜ r ≡ binding-of p n ⌝ }
 {
-    if n == p.size {
+    if n < p.size {
+        return Binding::TwoWay;
+    }
+    if p.first.number == p.last.number {
         return Binding::Opposite;
     }
     Binding::TwoWay
 }
 
-// The bytes become the current bytes from the cell on. If the block's active writer is another board than the
+// The bytes become the current bytes from the cell on. If a block's active writer is another board than the
 // requester's, each comes to depend on the other; if the whole block is written, only that writer on this board.
 fn write_by(
     image: &mut [u8],
@@ -156,7 +186,7 @@ fn write_by(
         return refusal(admission.number(), state);
     };
     let how = binding_of(p, bytes.len());
-    let next = bind(state, how, p.board, p.tag);
+    let next = bind_blocks(state, how, p);
     let budget = Budget::new(k);
     let left = put_bytes(image, p, bytes, budget);
     finish(k, left, false, 0, next)

@@ -1,3 +1,3 @@
-pub mod Touched
+pub mod Extent
 pub mod Range
 pub mod Tests

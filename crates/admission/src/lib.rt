@@ -5,28 +5,36 @@ use entry::Entry;
 use entry::board_of;
 use entry::enter_by;
 use layout::TAGS;
+use layout::block_of;
 use layout::current_at;
 use protocol::Requester;
 use protocol::Shape;
 use volatile::Record;
 ghost use mathlib.Core.Path.{_≡_};
-ghost use mathlib.Core.Bool.{true};
-ghost use Prim.Native.Nat.{_*_, _<_};
+ghost use mathlib.Core.Bool.{true, false};
+ghost use Prim.Native.Nat.{_+_, _<_};
 ghost use lib.ListN.{length};
-ghost use Rattle.protocol.specs.Image.{allowed, total};
+ghost use Rattle.protocol.specs.Image.{allowed};
 ghost use Rattle.protocol.specs.Calls.{Read, Write, refusal-at, bad-range, over-port-limit};
+ghost use Rattle.layout.specs.Headers.{tags-at, Shaped};
 ghost use Rattle.entry.specs.Tested.{refusal-number, Tested};
-ghost use Rattle.admission.specs.Places.{place-at, admission-says, Placed};
+ghost use Rattle.admission.specs.Places.{block-at, place-at, admission-says, Placed};
 
 // The most cells of an access by the port.
 const PORT_LIMIT: usize = 4;
 
-// The board whose access it is; where it begins in the image; its block, that block's tag and size.
+// A block by its number, with its tag.
+pub struct Block {
+    pub number: usize,
+    pub tag: u8,
+}
+
+// The board whose access it is; where it begins in the image; the first and the last block; their size.
 pub struct Place {
     pub board: u8,
     pub at: usize,
-    pub block: usize,
-    pub tag: u8,
+    pub first: Block,
+    pub last: Block,
     pub size: usize,
 }
 
@@ -48,7 +56,7 @@ impl Admission {
     }
 }
 
-// 2: n is 0 or above S, or the access passes the last cell or leaves its block.
+// 2: n is 0 or above S, or the access passes the last cell.
 fn bad_range(s: Shape, cell: usize, n: usize) -> bool
     requires { ⌜ allowed s ≡ true ⌝ }
     ensures { λ r. ⌜ r ≡ bad-range s cell n ⌝ }
@@ -60,14 +68,7 @@ fn bad_range(s: Shape, cell: usize, n: usize) -> bool
     if n > size {
         return true;
     }
-    let cells = s.blocks * size;
-    if cell > cells {
-        return true;
-    }
-    if cell + n > cells {
-        return true;
-    }
-    cell / size != (cell + n - 1) / size
+    cell > s.blocks * size - n
 }
 
 // 17: the port asks for more cells than its limit.
@@ -83,24 +84,35 @@ fn over_port_limit(who: Requester, n: usize) -> bool
     }
 }
 
-// Where a board's access that begins at a cell lies.
-fn locate(image: &[u8], s: Shape, board: u8, cell: usize) -> Place
-    requires { ⌜ (allowed s ≡ true) × (length (now image) ≡ total s) × (cell < s .blocks * s .size) ⌝ }
-    ensures { λ r. ⌜ r ≡ place-at s (now (image .entry)) board cell ⌝ }
+// A block with its tag.
+fn block_at(image: &[u8], number: usize) -> Block
+    requires { ⌜ tags-at + number < length (now image) ⌝ }
+    ensures { λ r. ⌜ r ≡ block-at (now (image .entry)) number ⌝ }
 {
-    let block = cell / s.size;
-    let tag = image[TAGS + block];
+    let tag = image[TAGS + number];
+    Block { number, tag }
+}
+
+// Where a board's access of n cells lies: its first cell tells the first block, its last cell the last one.
+fn locate(image: &[u8], s: Shape, board: u8, cell: usize, n: usize) -> Place
+    requires { ⌜ Shaped (now image) s × (bad-range s cell n ≡ false) ⌝ }
+    ensures { λ r. ⌜ r ≡ place-at s (now (image .entry)) board cell n ⌝ }
+{
+    let from = block_of(image, cell);
+    let to = block_of(image, cell + n - 1);
+    let first = block_at(image, from);
+    let last = block_at(image, to);
     let at = current_at(s) + cell;
     Place {
         board,
         at,
-        block,
-        tag,
+        first,
+        last,
         size: s.size,
     }
 }
 
-// A read: the first tests of a board's call, then 2, 17, 5, 11 for the block's tag, 13.
+// A read: the first tests of a board's call, then 2, 17, 5, 11 for either block's tag, 13.
 pub fn admit(
     image: &[u8],
     state: Record,
@@ -126,8 +138,11 @@ pub fn admit(
         return Admission::Refused(5);
     }
     let board = board_of(s, who) as u8;
-    let p = locate(image, s, board, cell);
-    if p.tag as usize > s.boards {
+    let p = locate(image, s, board, cell, n);
+    if p.first.tag as usize > s.boards {
+        return Admission::Refused(11);
+    }
+    if p.last.tag as usize > s.boards {
         return Admission::Refused(11);
     }
     let members = state.engaged();
@@ -137,7 +152,7 @@ pub fn admit(
     Admission::Taken(p)
 }
 
-// A write: as a read with room enough, then 13 for a member's block.
+// A write: as a read with room enough, then 13 if either block is a member's.
 pub fn admit_write(
     image: &[u8],
     state: Record,
@@ -155,7 +170,10 @@ pub fn admit_write(
         return admission;
     };
     let members = state.engaged();
-    if tagged_in(members, p.tag) {
+    if tagged_in(members, p.first.tag) {
+        return Admission::Refused(13);
+    }
+    if tagged_in(members, p.last.tag) {
         return Admission::Refused(13);
     }
     admission

@@ -98,6 +98,12 @@ passed s h = rw (
 
 -- ---- images
 
+-- the power of two that an allowed block size is, as the header holds it
+power-small : (image : List ℕ) → allowed (shape-of image) ≡ true → byte image 5 ≤ 6
+unfolding shape-of
+power-small image h =
+    let q = bounded {s = shape-of image} h .limits .power in power-within (q .0) (byte image 5) (q .1) (q .2)
+
 -- what an image in order gives of its shape s
 pub record Geometry (most : ℕ) (s : Shape) (image : List ℕ) : Type 0 where
   pub sound : Sound s image
@@ -112,15 +118,20 @@ geometry {image} h =
     let s = shape-of image in
     let both = order-sound h in
     let long = both .0 .long in
-    let shape = bounded {s = s} (both .0 .allowed-shape) in
-    let q = shape .limits .power in
     record {
       sound = both .0;
-      shape = shape;
+      shape = bounded {s = s} (both .0 .allowed-shape);
       enough = omega arith;
-      power = power-within (q .0) (byte image 5) (q .1) (q .2);
+      power = power-small image (both .0 .allowed-shape);
       decision = both .1;
     }
+
+-- an image of the shape that its header names has bytes 0 to 11 and such a power
+pub shaped-power : {image : List ℕ} {s : Shape} → Shaped image s → (12 ≤ length image) × (byte image 5 ≤ 6)
+unfolding total
+shaped-power {image} h =
+    let allowed-shape = subst (λ s. allowed s ≡ true) (sym (h .shape)) (h .allowed-shape) in
+    (omega (arith, h .long), power-small image allowed-shape)
 
 -- what a header that was read tells
 module _ {most : ℕ} {image : List ℕ} where

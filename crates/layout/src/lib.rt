@@ -2,7 +2,7 @@
 use protocol::Shape;
 ghost use mathlib.Core.Path.{_≡_};
 ghost use mathlib.Core.Bool.{true};
-ghost use Prim.Native.Nat.{_≤_};
+ghost use Prim.Native.Nat.{_/_, _≤_};
 ghost use lib.Dec.{eqb};
 ghost use lib.ListN.{length, getD};
 ghost use Rattle.boards.specs.Lists.{every};
@@ -95,6 +95,15 @@ fn shape_of(image: &[u8]) -> Shape
         blocks: image[6] as usize + 256 * (image[7] as usize),
         context: image[8] as usize,
     }
+}
+
+// The block of a cell. A block's size is a power of two, which stands in the header: no division.
+pub fn block_of(image: &[u8], cell: usize) -> usize
+    requires { ⌜ (decision-at ≤ length (now image)) × (byte (now image) 5 ≤ 6) ⌝ }
+    ensures { λ r. ⌜ r ≡ cell / shape-of (now (image .entry)) .size ⌝ }
+{
+    let power = image[5];
+    cell >> power
 }
 
 // Where the current bank begins: past the header, the decision, its group and the tags.

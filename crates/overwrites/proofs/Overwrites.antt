@@ -1,7 +1,6 @@
 -- One link is left after a write over the whole of another board's block, two after a shorter one, and so who is rolled
 -- back.
 use Prim.Native.Nat.{ℕ, suc, _+_, _-_, _*_, _/_, _≤_, _<_}
-use native.Mathlib.Nat.{le-div-iff-mul-le, div-lt-iff-lt-mul}
 use native.Mathlib.Omega.{arith}
 use mathlib.Core.Path.{_≡_, refl, sym, _∙_, ap, subst}
 use mathlib.Core.Bool.{true}
@@ -10,52 +9,26 @@ use mathlib.Core.Logic.{_⊎_, inl, inr, ⊎-elim}
 use lib.ListN.{length}
 use borrow.Author.Tests.{ne-eqb}
 use Rattle.boards.specs.Boards.{Links, unlinked, link, Chain, here, step, Exactly}
-use Rattle.protocol.specs.Image.{Tags, size, shape-of, view}
+use Rattle.protocol.specs.Image.{Tags, size, view}
 use Rattle.protocol.specs.Accesses.{board-of, touched, whole, write-binding, bind-boards, bind-tag, bind-blocks}
-use Rattle.protocol.specs.Calls.{Write, Fault, first, refusals}
+use Rattle.protocol.specs.Calls.{Write, Fault}
 use Rattle.protocol.specs.Ledger.{done, noted, effect, update}
-use Rattle.protocol.specs.Claim.{verdict, System, answer, next}
+use Rattle.protocol.specs.Claim.{System, answer, next}
 use Rattle.protocol.specs.declared.Shape.{Shape}
 use Rattle.protocol.specs.declared.Requester.{Requester}
 use Rattle.boards.proofs.Basics.{refute, clash, eqb-same}
 use Rattle.boards.proofs.Groups.{link-new, link-old, link-cases, links-ext}
-use Rattle.protocol.proofs.Accesses.{whole-bounds, bounds-whole}
+use Rattle.protocol.proofs.Accesses.{div-inside, whole-bounds, bounds-whole}
 use Rattle.protocol.proofs.Bridge.{view-at}
 use Rattle.protocol.proofs.Safety.{block-below}
 use Rattle.protocol.proofs.Plans.{Ranged}
 use Rattle.protocol.proofs.Agreement.{On}
 use Rattle.protocol.proofs.Invariant as Invariant
-use Rattle.protocol.proofs.Invariant.{Invariant, up, down, write-ok, off-refuses}
-use Rattle.protocol.proofs.Order.{done-taken}
-use Rattle.protocol.proofs.Demand3.{invariant-at}
+use Rattle.protocol.proofs.Invariant.{Invariant}
+use Rattle.protocol.proofs.Demand3.{invariant-at, write-taken}
 use Rattle.overwrites.specs.Overwrites.{Overwrite, Inside, Rolls-back, Faults-after-overwrite, Single-cells}
 
--- ---- a write that is done
-
--- image, record and ledger agree, and its range is in order
-write-taken : {s : Shape} (w : System) (who : Requester) (a : ℕ) (bytes : List ℕ) (k : ℕ)
-    → verdict (answer w (Write who a bytes) k) ≡ done → Invariant s w
-    → On s (view s (w .image)) (w .state) (w .ledger) × Ranged s a (length bytes)
-unfolding answer refusals
-write-taken {s} w who a bytes k v = go
-  where
-    passed : shape-of (w .image) ≡ s
-        → first (refusals (w .image) s (view s (w .image)) (w .state) (Write who a bytes)) ≡ 0
-    passed same =
-        subst (λ t. first (refusals (w .image) t (view t (w .image)) (w .state) (Write who a bytes)) ≡ 0) same
-        (done-taken (w .image) (w .state) (Write who a bytes) k v)
-
-    go : Invariant s w → On s (view s (w .image)) (w .state) (w .ledger) × Ranged s a (length bytes)
-    go (up h q on) = (on, write-ok h q on who a bytes (passed (h .shape)) .1)
-    go (down h q o c) = absurd (off-refuses w h q o c (board-of s who) _ (passed (h .shape)))
-
--- ---- the links that it leaves
-
-div-inside : (k b a : ℕ) → b * k ≤ a → a < b * k + k → a / k ≡ b
-div-inside k b a low high =
-    let from = le-div-iff-mul-le {k = k} {x = b} {y = a} (omega arith) .1 low in
-    let to = div-lt-iff-lt-mul {k = k} {x = a} {y = suc b} (omega arith) .1 (omega arith) in
-    omega arith
+-- ---- the links that a done write leaves
 
 touched-inside : (s : Shape) (b a n : ℕ) → 0 < n → Inside s b a n → touched s a n ≡ b ∷ []
 unfolding touched

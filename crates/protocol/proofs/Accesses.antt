@@ -30,6 +30,13 @@ div-next k a b h l =
     let q = div-lt-iff-lt-mul {k = k} {x = b} {y = a / k + 2} h .1 (omega arith) in
     omega arith
 
+-- a cell between the bounds of block b lies in it
+pub div-inside : (k b a : ℕ) → b * k ≤ a → a < b * k + k → a / k ≡ b
+div-inside k b a low high =
+    let from = le-div-iff-mul-le {k = k} {x = b} {y = a} (omega arith) .1 low in
+    let to = div-lt-iff-lt-mul {k = k} {x = a} {y = suc b} (omega arith) .1 (omega arith) in
+    omega arith
+
 -- a cell of an access of at most S cells lies in a touched block
 pub cell-touched : (s : Shape) (a n c : ℕ) → 0 < s .size → n ≤ s .size → a ≤ c → c < a + n
     → anyOf (eqb (c / s .size)) (touched s a n) ≡ true

@@ -1,23 +1,25 @@
 -- Demand 3: what the invariant gives at each point of every list of calls, from a finished format on.
 use Prim.Native.Nat.{ℕ, _+_, _*_, _<_, suc}
-use mathlib.Core.Path.{_≡_, refl, sym, _∙_, ap}
+use mathlib.Core.Path.{_≡_, refl, sym, _∙_, ap, subst}
 use mathlib.Core.Bool.{false, not}
 use mathlib.Core.List.{List, [], _∷_}
 use lib.Dec.{eqb}
-use lib.ListN.{length-replicate, getD-replicate}
+use lib.ListN.{length, length-replicate, getD-replicate}
 use lib.Seq.{ext-getD}
 use lib.Pow.{pow-pos}
 use native.Mathlib.Omega.{arith}
 use Rattle.boards.specs.Lists.{span}
 use Rattle.boards.specs.Boards.{unlinked}
 use Rattle.protocol.specs.Image.{Decision, Tags, Current, Recovery, Checkpoint, rank, view, byte, base}
-use Rattle.protocol.specs.Image.{size}
+use Rattle.protocol.specs.Image.{size, shape-of}
+use Rattle.protocol.specs.Accesses.{board-of}
 use Rattle.volatile.specs.Volatile.{closed, fresh}
-use Rattle.protocol.specs.Calls.{format}
+use Rattle.protocol.specs.Calls.{format, Write, first, refusals}
 use Rattle.protocol.specs.Ledger.{done, blank, writer}
-use Rattle.protocol.specs.Claim.{verdict, System, Call, next, formatted, Holds}
+use Rattle.protocol.specs.Claim.{verdict, System, Call, answer, next, formatted, Holds}
 use Rattle.protocol.specs.Claim.{Faithful, end, and-then, Demand-3, Format-done, later}
 use Rattle.protocol.specs.declared.Shape.{Shape}
+use Rattle.protocol.specs.declared.Requester.{Requester}
 use Rattle.volatile.specs.declared.Record.{Record}
 use Rattle.boards.proofs.Basics.{clash}
 use Rattle.boards.proofs.Basics.{getD-span, length-span}
@@ -31,8 +33,9 @@ use Rattle.protocol.proofs.Bridge.{Sound, view-at, view-decision, conte
 use Rattle.protocol.proofs.Format as Format
 use Rattle.protocol.proofs.Copies.{current}
 use Rattle.protocol.proofs.Agreement.{On, nobody}
-use Rattle.protocol.proofs.Invariant.{Invariant, up, down, step}
-use Rattle.protocol.proofs.Order.{Ready, no-state-refusal, next-ready}
+use Rattle.protocol.proofs.Plans.{Ranged}
+use Rattle.protocol.proofs.Invariant.{Invariant, up, down, step, write-ok, off-refuses}
+use Rattle.protocol.proofs.Order.{done-taken, Ready, no-state-refusal, next-ready}
 use Rattle.protocol.specs.Dependences.{last-by}
 use Rattle.protocol.proofs.Dependences.{names-eqb, writer-last}
 
@@ -134,7 +137,7 @@ formatted-ready s image r k v =
     rw (f .2) (record { small = pow-pos 16; state = λ q. orderly-record (fresh-order (s .boards)) })
 
 -- the invariant at each point
-reached : {s : Shape} (w : System) (calls : List Call) → Invariant s w → Invariant s (later s w calls)
+pub reached : {s : Shape} (w : System) (calls : List Call) → Invariant s w → Invariant s (later s w calls)
 unfolding later
 reached w [] i = i
 reached {s} w (c ∷ cs) i = reached (next s w (c .request) (c .k)) cs (step w i (c .request) (c .k) .1)
@@ -142,6 +145,23 @@ reached {s} w (c ∷ cs) i = reached (next s w (c .request) (c .k)) cs (step w i
 pub invariant-at : (s : Shape) (image : List ℕ) (r : Record) (k : ℕ) → verdict (format s image r k) ≡ done
     → (calls : List Call) → Invariant s (later s (formatted s image r k) calls)
 invariant-at s image r k v calls = reached (formatted s image r k) calls (formatted-on s image r k v)
+
+-- where a write is done, image, record and ledger agree, and its range is in order
+pub write-taken : {s : Shape} (w : System) (who : Requester) (a : ℕ) (bytes : List ℕ) (k : ℕ)
+    → verdict (answer w (Write who a bytes) k) ≡ done → Invariant s w
+    → On s (view s (w .image)) (w .state) (w .ledger) × Ranged s a (length bytes)
+unfolding answer refusals
+write-taken {s} w who a bytes k v = go
+  where
+    passed : shape-of (w .image) ≡ s
+        → first (refusals (w .image) s (view s (w .image)) (w .state) (Write who a bytes)) ≡ 0
+    passed same =
+        subst (λ t. first (refusals (w .image) t (view t (w .image)) (w .state) (Write who a bytes)) ≡ 0) same
+        (done-taken (w .image) (w .state) (Write who a bytes) k v)
+
+    go : Invariant s w → On s (view s (w .image)) (w .state) (w .ledger) × Ranged s a (length bytes)
+    go (up h q on) = (on, write-ok h q on who a bytes (passed (h .shape)) .1)
+    go (down h q o c) = absurd (off-refuses w h q o c (board-of s who) _ (passed (h .shape)))
 
 pub demand-3 : Demand-3
 demand-3 s image r k v calls =

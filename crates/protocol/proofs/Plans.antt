@@ -41,16 +41,13 @@ pub record Ranged (s : Shape) (a n : ℕ) : Type 0 where
 pub ranged : (s : Shape) (a n : ℕ) → bad-range s a n ≡ false → Ranged s a n
 unfolding bad-range
 ranged s a n e =
-    let rest = ltb (s .size) n || (ltb (cells s) (a + n) || not (eqb (a / s .size) ((a + n - 1) / s .size))) in
-    let one = or-false (eqb n 0) rest e in
-    let two = or-false (ltb (s .size) n) (ltb (cells s) (a + n) || not (eqb (a / s .size) ((a + n - 1) / s .size)))
-    (one .1) in
-    let three = or-false (ltb (cells s) (a + n)) (not (eqb (a / s .size) ((a + n - 1) / s .size))) (two .1) in
+    let one = or-false (eqb n 0) (ltb (s .size) n || ltb (cells s) (a + n)) e in
+    let two = or-false (ltb (s .size) n) (ltb (cells s) (a + n)) (one .1) in
     let positive = eqb-false n 0 (one .0) in
     record {
       some = omega arith;
       few = ltb-false (s .size) n (two .0);
-      within = ltb-false (cells s) (a + n) (three .0);
+      within = ltb-false (cells s) (a + n) (two .1);
     }
 
 pub touched-below : (s : Shape) (a n : ℕ) → 0 < s .size → Ranged s a n → All (λ b. b < s .blocks) (touched s a n)
@@ -167,8 +164,8 @@ module _ (image : List ℕ) (r : Record) where
       let blocks = touched-below shape a n (limits shape (b .0 .sound .allowed-shape) .some-size) r in
       let tags = inside-valid (tagging-inside shape memory i (touched shape a n) blocks) in
       let cells = inside-valid (placing-inside shape Current a bytes (omega arith) (r .within)) in
-      -- in whichever order they are made
-      (b .0 .sound, search all-append)
+      -- in whichever order, and however many of them
+      (b .0 .sound, search (all-append, all-take))
   plan-valid (Start i context) e =
       let b = begun image r i _ refl e in
       let full = start-passed shape r (length context) (b .1) .full in

@@ -48,12 +48,9 @@ unfoldable pub first : List Test → ℕ
 first [] = 0
 first (t ∷ ts) = cond (t .holds) (t .number) (first ts)
 
--- n is 0 or above S, or the access passes the last cell or leaves its block
+-- n is 0 or above S, or the access passes the last cell (it may go on into the next block: document 02, Req 06)
 unfoldable pub bad-range : Shape → ℕ → ℕ → Bool
-bad-range s a n =
-    eqb n 0
-    || (ltb (s .size) n
-    || (ltb (cells s) (a + n) || not (eqb (a / s .size) ((a + n - 1) / s .size))))
+bad-range s a n = eqb n 0 || (ltb (s .size) n || ltb (cells s) (a + n))
 
 -- the port asks for more than 4 cells; a board has no limit but S
 unfoldable pub over-port-limit : Requester → ℕ → Bool

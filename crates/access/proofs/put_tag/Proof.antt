@@ -1,5 +1,4 @@
 -- `put_tag` meets its contract: nothing for the writer's own block, else one store.
-use Prim.Native.Nat.{_+_}
 use native.Mathlib.Omega.{arith}
 use borrow.Author.Tests.{eq-eqb, ne-eqb}
 use Rattle.store.proofs.Laws.{makes-none}
@@ -10,8 +9,8 @@ use Rattle.access.proofs.put_tag.Tie as tie
 returns : tie.Need-returns
 unfolding tag-store
 returns c =
-    let args = c .before .before .before .before .args in
-    rw (eq-eqb (args .p .tag) (args .p .board + 1) (omega (arith, c .if1 .taken))) (makes-none _ _)
+    let args = c .before .before .before .args in
+    rw (eq-eqb (args .block .tag) (args .own) (omega (arith, c .if1 .taken))) (makes-none _ _)
 
 returns-2 : tie.Need-returns-2
 unfolding tag-store
@@ -22,10 +21,4 @@ returns-2 c =
 pub put-tag-spec : {M : Type 1} → statement M
 put-tag-spec =
     tie.close
-    (tie.spec
-    (λ c. omega arith)
-    returns
-    (λ c. omega arith)
-    (λ c κs. omega arith)
-    (λ c. c .before .image .given)
-    returns-2)
+    (tie.spec returns (λ c. omega arith) (λ c κs. omega arith) (λ c. c .before .image .given) returns-2)

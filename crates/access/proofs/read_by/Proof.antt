@@ -29,8 +29,8 @@ known : (c : tie.After-admission) →
     × Placed (now (args .image)) (args .state) (args .who) (args .cell) (args .n) room (c .admission .given .0 .0)
 known c = if-admitted (c .before .before .admit .ensures) (c .admission .given .1)
 
-bind-requires : tie.Need-bind-requires
-bind-requires c κs = let place = within (known (c .before) .1) in (place .board, place .tag)
+bind-blocks-requires : tie.Need-bind-blocks-requires
+bind-blocks-requires c κs = let place = within (known (c .before) .1) in (place .board, place .first-tag, place .last-tag)
 
 fill-requires : tie.Need-fill-requires
 fill-requires c κs =
@@ -48,7 +48,7 @@ returns-2 c =
     let opened = bound .before .before in
     let args = opened .before .before .before .before .before .args in
     read-done (args .who) (args .cell) (args .n) (now (args .buffer)) (length (now (args .buffer))) (known opened)
-    (bound .bind .ensures) (filled .fill .ensures) (made .new .ensures) (c .finish .ensures)
+    (bound .bind-blocks .ensures) (filled .fill .ensures) (made .new .ensures) (c .finish .ensures)
 
 pub read-by-spec : {M : Type 1} → statement M
 read-by-spec =
@@ -60,7 +60,7 @@ read-by-spec =
     (λ c κs. tt)
     (λ c κs. tt)
     returns
-    bind-requires
+    bind-blocks-requires
     fill-requires
     (λ c κs. tt)
     finish-requires

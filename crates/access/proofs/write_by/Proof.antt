@@ -31,13 +31,13 @@ known : (c : tie.After-admission) →
     × Placed (now (args .image)) (args .state) (args .who) (args .cell) n n (c .admission .given .0 .0)
 known c = if-admitted (c .before .before .admit-write .ensures) (c .admission .given .1)
 
-bind-requires : tie.Need-bind-requires
-bind-requires c κs = let place = within (known (c .before .before) .1) in (place .board, place .tag)
+bind-blocks-requires : tie.Need-bind-blocks-requires
+bind-blocks-requires c κs = let place = within (known (c .before .before) .1) in (place .board, place .first-tag, place .last-tag)
 
 put-bytes-requires : tie.Need-put-bytes-requires
 put-bytes-requires c κs =
     let place = within (known (c .before .before .before .before .before) .1) in
-    (place .block, place .cells, place .board)
+    (place .first-block, place .last-block, place .cells, place .board)
 
 finish-requires : tie.Need-finish-requires
 finish-requires c κs =
@@ -54,7 +54,7 @@ returns-2 c =
     let args = opened .before .before .before .before .before .before .args in
     let passed = known opened in
     write-done (args .who) (args .cell) (now (args .bytes)) (passed .1) (passed .0) (chosen .binding-of .ensures)
-    (bound .bind .ensures) (made .new .ensures) (stored .put-bytes .ensures) (c .finish .ensures)
+    (bound .bind-blocks .ensures) (made .new .ensures) (stored .put-bytes .ensures) (c .finish .ensures)
 
 pub write-by-spec : {M : Type 1} → statement M
 write-by-spec =
@@ -68,7 +68,7 @@ write-by-spec =
     (λ c. refl)
     returns
     (λ c κs. tt)
-    bind-requires
+    bind-blocks-requires
     (λ c κs. tt)
     put-bytes-requires
     finish-requires

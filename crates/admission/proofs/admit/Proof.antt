@@ -4,17 +4,19 @@ use mathlib.Core.Path.{_≡_, sym, _∙_, ap, subst}
 use mathlib.Core.Bool.{false}
 use mathlib.Core.List.{[], _∷_}
 use native.Mathlib.Omega.{arith}
+use borrow.Author.Tests.{lt-ltb, le-ltb}
+use lib.Dec.{ltb}
 use denote.Ref.{now}
 use Rattle.boards.specs.Boards.{has}
 use Rattle.protocol.specs.Image.{shape-of}
+use Rattle.volatile.specs.Volatile.{engaged}
 use Rattle.protocol.specs.Accesses.{board-of}
 use Rattle.protocol.specs.Calls.{Read, refusals, refusal-at, entry-tests, first, test, bad-range, over-port-limit}
-use Rattle.protocol.proofs.Plans.{ranged}
 use Rattle.protocol.proofs.Refusals.{first-held, first-passed}
 use Rattle.entry.specs.Tested.{Entry-passed, entry-says, refused, passed}
 use Rattle.entry.proofs.Laws.{same-board, small, if-taken, refused-first}
 use Rattle.admission.specs.Places.{Placed}
-use Rattle.admission.proofs.Tests.{placed, read-two, read-seventeen, read-five, read-eleven, read-last}
+use Rattle.admission.proofs.Tests.{placed, read-two, read-seventeen, read-five, read-rest}
 use Rattle.admission.proofs.admit.Statement.{statement}
 use Rattle.admission.proofs.admit.Tie as tie
 
@@ -86,24 +88,53 @@ board-small c =
 locate-requires : tie.Need-locate-requires
 locate-requires c κs =
     let range = c .before .before .before .before in
-    let shaped = known (range .before .before .before) .1 .shaped in
-    (shaped .allowed-shape, shaped .long, omega (arith, ranged _ _ _ (ok range)))
+    (known (range .before .before .before) .1 .shaped, ok range)
 
-returns-5 : tie.Need-returns-5
-returns-5 c =
-    let located = c .before .before .before in
-    let fits = located .before .before in
+-- once the place is known, the tags of both blocks and the board decide
+rest : (c : tie.After-locate) →
+    let opened = c .before .before .before .before .before .before .before .before in
+    let args = opened .before .before .before .before .args in
+    let s = opened .entry .given .0 .0 in
+    refusal-at (now (args .image)) (args .state) (Read (args .who) (args .cell) (args .n) (args .room))
+    ≡ first
+    (test (ltb (s .boards) (c .locate .result .first .tag)) 11
+    ∷ test (ltb (s .boards) (c .locate .result .last .tag)) 11
+    ∷ test (has (engaged (args .state)) (board-of s (args .who))) 13
+    ∷ [])
+rest c =
+    let fits = c .before .before in
     let range = fits .before .before .before in
     let opened = range .before .before .before in
     let args = opened .before .before .before .before .args in
-    refused
-    (read-eleven (args .who) _ _ _ (known opened) (ok range) (within-limit (fits .before)) (fits .if3 .left)
-    (located .locate .ensures) (c .if4 .taken))
-    (λ z. omega arith)
+    read-rest (args .who) _ _ _ (known opened) (ok range) (within-limit (fits .before)) (fits .if3 .left)
+    (c .locate .ensures)
+
+returns-5 : tie.Need-returns-5
+returns-5 c =
+    refused (rest (c .before .before .before) ∙ first-held 11 _ (lt-ltb _ _ (c .if4 .taken))) (λ z. omega arith)
+
+-- the first block's tag is in order
+second : (c : tie.Else4) →
+    let located = c .before .before .before in
+    let opened = located .before .before .before .before .before .before .before .before in
+    let args = opened .before .before .before .before .args in
+    let s = opened .entry .given .0 .0 in
+    refusal-at (now (args .image)) (args .state) (Read (args .who) (args .cell) (args .n) (args .room))
+    ≡ first
+    (test (ltb (s .boards) (located .locate .result .last .tag)) 11
+    ∷ test (has (engaged (args .state)) (board-of s (args .who))) 13
+    ∷ [])
+second c = rest (c .before .before .before) ∙ first-passed 11 _ (le-ltb _ _ (c .if4 .left))
+
+returns-6 : tie.Need-returns-6
+returns-6 c =
+    let low = c .before .before .before in
+    let tag = low .before .before .before .locate .result .last .tag in
+    refused (second low ∙ first-held 11 _ (lt-ltb _ tag (omega (arith, c .if5 .taken, low .if4 .left)))) (λ z. omega arith)
 
 -- all tests but 13 are passed: the answer of `has` decides, and the place is known
 last : (c : tie.After-has) →
-    let located = c .before .before .before .before .before in
+    let located = c .before .before .before .before .before .before .before .before in
     let opened = located .before .before .before .before .before .before .before .before in
     let args = opened .before .before .before .before .args in
     (refusal-at (now (args .image)) (args .state) (Read (args .who) (args .cell) (args .n) (args .room))
@@ -111,7 +142,8 @@ last : (c : tie.After-has) →
     × Placed (now (args .image)) (args .state) (args .who) (args .cell) (args .n) (args .room) (located .locate .result)
 last c =
     let fine = c .before .before in
-    let located = fine .before .before .before in
+    let low = fine .before .before .before in
+    let located = low .before .before .before in
     let board = located .before in
     let fits = board .before in
     let range = fits .before .before .before in
@@ -120,19 +152,18 @@ last c =
     let passed = known opened in
     let member = c .has .ensures ∙ ap (λ g. has g (board .board-of .result)) (c .before .engaged .ensures)
     ∙ ap (has _) (board .board-of .ensures) in (
-      read-last who _ _ _ passed (ok range) (within-limit (fits .before)) (fits .if3 .left) (located .locate .ensures)
-          (fine .if4 .left)
+      second low ∙ first-passed 11 _ (le-ltb _ (located .locate .result .last .tag) (omega (arith, fine .if5 .left)))
           ∙ ap (λ b. first (test b 13 ∷ [])) (sym member),
       placed _ (board .board-of .ensures) (located .locate .ensures) (passed .1) (ok range) (fits .if3 .left)
-          (fine .if4 .left),
+          (low .if4 .left) (fine .if5 .left),
     )
 
-returns-6 : tie.Need-returns-6
-returns-6 c = refused (last (c .before) .0 ∙ first-held 13 [] (c .if5 .taken)) (λ z. omega arith)
-
 returns-7 : tie.Need-returns-7
+returns-7 c = refused (last (c .before) .0 ∙ first-held 13 [] (c .if6 .taken)) (λ z. omega arith)
+
+returns-8 : tie.Need-returns-8
 unfolding first
-returns-7 c = passed (last (c .before) .0 ∙ first-passed 13 [] (c .if5 .left)) (last (c .before) .1)
+returns-8 c = passed (last (c .before) .0 ∙ first-passed 13 [] (c .if6 .left)) (last (c .before) .1)
 
 pub admit-spec : {M : Type 1} → statement M
 admit-spec =
@@ -153,7 +184,9 @@ admit-spec =
     locate-requires
     (λ c. omega arith)
     returns-5
-    (λ c κs. tt)
-    (λ c κs. board-small (c .before .before .before .before .before))
+    (λ c. omega arith)
     returns-6
-    returns-7)
+    (λ c κs. tt)
+    (λ c κs. board-small (c .before .before .before .before .before .before .before .before))
+    returns-7
+    returns-8)

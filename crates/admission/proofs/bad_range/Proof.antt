@@ -1,7 +1,10 @@
 -- `bad_range` meets its contract: its tests in their order, with no sum that could wrap.
+use Prim.Native.Nat.{_≤_}
 use native.Mathlib.Omega.{arith}
+use Rattle.protocol.specs.Image.{cells}
+use Rattle.boards.proofs.Basics.{row-fits}
 use Rattle.layout.proofs.Laws.{bounded}
-use Rattle.admission.proofs.Range.{range-none, range-long, range-past, range-block}
+use Rattle.admission.proofs.Range.{range-none, range-long, range-end}
 use Rattle.admission.proofs.bad_range.Statement.{statement}
 use Rattle.admission.proofs.bad_range.Tie as tie
 
@@ -13,45 +16,25 @@ returns-2 c =
     let args = c .before .before .args in
     range-long (args .s) (args .cell) (args .n) (c .before .if1 .left) (c .if2 .taken)
 
-mul-cells : tie.Need-mul-cells
-mul-cells c = omega (arith, bounded (c .before .before .before .pre))
+-- as few cells as a block has are no more than there are in all
+few : (c : tie.Else2) → c .before .before .args .n ≤ cells (c .before .before .args .s)
+few c =
+    let start = c .before .before in
+    let size = bounded (start .pre) in
+    let s = start .args .s in
+    omega (arith, c .if2 .left, row-fits (s .size) (s .blocks) 0 (omega (arith, size)))
+
+mul-result : tie.Need-mul-result
+mul-result c = omega (arith, bounded (c .before .before .before .pre))
+
+sub-result : tie.Need-sub-result
+sub-result c = omega (arith, few (c .before))
 
 returns-3 : tie.Need-returns-3
 returns-3 c =
-    let few = c .before .before in
-    let args = few .before .before .args in
-    range-past (args .s) (args .cell) (args .n) (few .before .if1 .left) (few .if2 .left) (omega arith)
-
-add-if4 : tie.Need-add-if4
-add-if4 c = omega (arith, bounded (c .before .before .before .before .pre))
-
-returns-4 : tie.Need-returns-4
-returns-4 c =
-    let few = c .before .before .before in
-    let args = few .before .before .args in
-    range-past (args .s) (args .cell) (args .n) (few .before .if1 .left) (few .if2 .left) (c .if4 .taken)
-
-add-result : tie.Need-add-result
-add-result c = omega (arith, bounded (c .before .before .before .before .before .pre))
-
-returns-5 : tie.Need-returns-5
-returns-5 c =
-    let few = c .before .before .before in
-    let args = few .before .before .args in
-    range-block (args .s) (args .cell) (args .n) (few .before .if1 .left) (few .if2 .left) (c .if4 .left)
+    let short = c .before in
+    let args = short .before .before .args in
+    range-end (args .s) (args .cell) (args .n) (short .before .if1 .left) (short .if2 .left) (few short)
 
 pub bad-range-spec : {M : Type 1} → statement M
-bad-range-spec =
-    tie.close
-    (tie.spec
-    returns
-    returns-2
-    mul-cells
-    returns-3
-    add-if4
-    returns-4
-    (λ c. omega arith)
-    add-result
-    (λ c. omega arith)
-    (λ c. omega arith)
-    returns-5)
+bad-range-spec = tie.close (tie.spec returns returns-2 mul-result sub-result returns-3)
