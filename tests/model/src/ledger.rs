@@ -1,7 +1,8 @@
 //! The ledger of document 01, written apart from the protocol, with the
-//! links of Req 01 and the port accesses of Req 03 of document 02. It is told
-//! the shape, each call with its arguments and allowance, and of the answer
-//! only whether it was refused, done or cut.
+//! links of Req 01, the port accesses of Req 03 and the accesses to two
+//! blocks of Req 06 of document 02. It is told the shape, each call with its
+//! arguments and allowance, and of the answer only whether it was refused,
+//! done or cut.
 
 /// A call of the list.
 #[derive(Clone, Copy, Debug)]
@@ -192,24 +193,32 @@ impl Ledger {
         }
     }
 
+    /// The blocks in which n cells from `first` on lie, each once.
+    fn blocks(&self, first: usize, n: usize) -> Vec<usize> {
+        let mut blocks: Vec<usize> = (first..first + n).map(|cell| cell / self.size).collect();
+        blocks.dedup();
+        blocks
+    }
+
     /// The writer of the last write noted in the block, if it is pending and
     /// by another board.
-    fn other_writer(&self, board: usize, cell: usize) -> Option<usize> {
-        let note = &self.notes[self.last_in_block[cell / self.size]?];
+    fn other_writer(&self, board: usize, block: usize) -> Option<usize> {
+        let note = &self.notes[self.last_in_block[block]?];
         (note.state == State::Pending && note.board != board).then_some(note.board)
     }
 
-    /// How many cells of the block that n cells from `first` on lie in are
-    /// not among them; none of a block overwritten whole.
-    fn left_over(&self, first: usize, n: usize) -> usize {
-        let block = first / self.size;
+    /// How many cells of the block are not among n cells from `first` on;
+    /// none of a block overwritten whole.
+    fn left_over(&self, block: usize, first: usize, n: usize) -> usize {
         let overwritten = (first..first + n).filter(|cell| cell / self.size == block);
         self.size - overwritten.count()
     }
 
     fn read(&mut self, board: usize, cell: usize, n: usize) -> Verdict {
-        if let Some(j) = self.other_writer(board, cell) {
-            self.links[board][j] = true;
+        for block in self.blocks(cell, n) {
+            if let Some(j) = self.other_writer(board, block) {
+                self.links[board][j] = true;
+            }
         }
         let number = self.note(board, Access::Read);
         let mut answered = Vec::new();
@@ -228,11 +237,14 @@ impl Ledger {
     }
 
     fn write(&mut self, board: usize, cell: usize, bytes: &[u8]) -> Verdict {
-        if let Some(j) = self.other_writer(board, cell) {
-            self.links[j][board] = true;
-            // A cell that is not overwritten may still hold what j wrote.
-            if self.left_over(cell, bytes.len()) > 0 {
-                self.links[board][j] = true;
+        let blocks = self.blocks(cell, bytes.len());
+        for block in &blocks {
+            if let Some(j) = self.other_writer(board, *block) {
+                self.links[j][board] = true;
+                // A cell that is not overwritten may still hold what j wrote.
+                if self.left_over(*block, cell, bytes.len()) > 0 {
+                    self.links[board][j] = true;
+                }
             }
         }
         let access = Access::Write {
@@ -241,7 +253,9 @@ impl Ledger {
             readers: Vec::new(),
         };
         let number = self.note(board, access);
-        self.last_in_block[cell / self.size] = Some(number);
+        for block in blocks {
+            self.last_in_block[block] = Some(number);
+        }
         for (i, byte) in bytes.iter().enumerate() {
             self.writes[cell + i].push(number);
             self.bytes[cell + i] = *byte;

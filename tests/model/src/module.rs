@@ -1,5 +1,7 @@
-//! The memory module of document 01 over a lent image, with Req 01 and 03 of
-//! document 02.
+//! The memory module of document 01 over a lent image, with Req 01, 03 and
+//! 06 of document 02.
+
+use std::ops::RangeInclusive;
 
 pub const MARK: [u8; 4] = [0x52, 0x53, 0x4D, 0x31];
 pub const DONE: u8 = 0;
@@ -339,40 +341,62 @@ fn begin_as(image: &[u8], record: &Record, requester: Requester) -> Result<(Shap
     Ok((shape, board))
 }
 
-/// Refusal 2, else the block that the access lies in.
-fn place(shape: &Shape, cell: usize, n: usize) -> Result<usize, u8> {
-    let block = cell >> shape.power;
-    let inside = n >= 1
-        && n <= shape.size()
-        && cell < shape.cells()
-        && cell + n <= shape.cells()
-        && (cell + n - 1) >> shape.power == block;
+/// The blocks that an access touches: one, or two neighbours.
+#[derive(Clone, Copy, Debug, PartialEq, Eq)]
+pub struct Touched {
+    pub first: usize,
+    pub last: usize,
+}
+
+impl Touched {
+    /// Of n cells, at least one, from `cell` on.
+    pub fn of(shape: &Shape, cell: usize, n: usize) -> Touched {
+        Touched {
+            first: cell >> shape.power,
+            last: (cell + n - 1) >> shape.power,
+        }
+    }
+
+    pub fn blocks(self) -> RangeInclusive<usize> {
+        self.first..=self.last
+    }
+
+    /// Whether there is a border between the first cell and the last one.
+    pub fn straddles(self) -> bool {
+        self.first != self.last
+    }
+}
+
+/// Refusal 2, else the first and the last block of the access.
+fn place(shape: &Shape, cell: usize, n: usize) -> Result<Touched, u8> {
+    let inside = n >= 1 && n <= shape.size() && cell < shape.cells() && cell + n <= shape.cells();
     if inside {
-        Ok(block)
+        Ok(Touched::of(shape, cell, n))
     } else {
         Err(2)
     }
 }
 
 /// The first tests of an access: 11, 12, 1, 2, and 17, for the port only.
-/// Gives the shape, the board and the block.
+/// Gives the shape, the board and the blocks.
 fn enter(
     image: &[u8],
     record: &Record,
     requester: Requester,
     cell: usize,
     n: usize,
-) -> Result<(Shape, usize, usize), u8> {
+) -> Result<(Shape, usize, Touched), u8> {
     let (shape, board) = begin_as(image, record, requester)?;
-    let block = place(&shape, cell, n)?;
+    let touched = place(&shape, cell, n)?;
     if requester == Requester::Port && n > PORT_CELLS {
         return Err(17);
     }
-    Ok((shape, board, block))
+    Ok((shape, board, touched))
 }
 
 /// Whether n cells from `cell` on overwrite the block whole. If not, it is a
-/// short write: what the block then holds is not all the writer's.
+/// short write: what the block then holds is not all the writer's. Each block
+/// is judged by itself, so a straddling write overwrites neither whole.
 fn whole(shape: &Shape, block: usize, cell: usize, n: usize) -> bool {
     let first = block << shape.power;
     cell <= first && first + shape.size() <= cell + n
@@ -414,18 +438,20 @@ fn try_read(
     n: usize,
     answer: &mut [u8],
 ) -> Result<Record, u8> {
-    let (shape, board, block) = enter(image, &record, requester, cell, n)?;
+    let (shape, board, touched) = enter(image, &record, requester, cell, n)?;
     let room = answer.get_mut(..n).ok_or(5)?;
-    let other = other_writer(image, &shape, board, block)?;
+    let mut next = record;
+    for block in touched.blocks() {
+        if let Some(j) = other_writer(image, &shape, board, block)? {
+            next = next.depend(board, j);
+        }
+    }
     if record.members >> board & 1 == 1 {
         return Err(13);
     }
     let at = shape.current() + cell;
     room.copy_from_slice(&image[at..at + n]);
-    Ok(match other {
-        Some(j) => record.depend(board, j),
-        None => record,
-    })
+    Ok(next)
 }
 
 pub fn write(
@@ -448,33 +474,41 @@ fn try_write(
     bytes: &[u8],
     k: u32,
 ) -> Result<(Answer, Record), u8> {
-    let (shape, board, block) = enter(image, &record, requester, cell, bytes.len())?;
-    let other = other_writer(image, &shape, board, block)?;
-    let touched = other.map_or(0, |j| 1_u16 << j) | 1 << board;
-    if record.members & touched != 0 {
+    let (shape, board, touched) = enter(image, &record, requester, cell, bytes.len())?;
+    let mut writers = 1_u16 << board;
+    let mut next = record;
+    for block in touched.blocks() {
+        if let Some(j) = other_writer(image, &shape, board, block)? {
+            writers |= 1 << j;
+            next = next.depend(j, board);
+            if !whole(&shape, block, cell, bytes.len()) {
+                next = next.depend(board, j);
+            }
+        }
+    }
+    if record.members & writers != 0 {
         return Err(13);
     }
-    let next = match other {
-        None => record,
-        Some(j) if whole(&shape, block, cell, bytes.len()) => record.depend(j, board),
-        Some(j) => record.depend(board, j).depend(j, board),
-    };
     let mut stores = Stores::new(image, k);
-    let result = write_stores(&mut stores, &shape, board, cell, block, bytes);
+    let result = write_stores(&mut stores, &shape, board, cell, touched, bytes);
     Ok(stores.answer(result, 0, next))
 }
 
+/// The tags that differ, then the bytes. No store changes another block's
+/// tag, so each is still as it was at entry when it is looked at.
 fn write_stores(
     stores: &mut Stores,
     shape: &Shape,
     board: usize,
     cell: usize,
-    block: usize,
+    touched: Touched,
     bytes: &[u8],
 ) -> Result<(), Cut> {
     let tag = board as u8 + 1;
-    if stores.image[TAGS + block] != tag {
-        stores.put(TAGS + block, tag)?;
+    for block in touched.blocks() {
+        if stores.image[TAGS + block] != tag {
+            stores.put(TAGS + block, tag)?;
+        }
     }
     stores.put_all(shape.current() + cell, bytes)
 }
