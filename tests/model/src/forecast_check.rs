@@ -3,12 +3,11 @@
 //! there, in spoilt copies of it and in copies with random rows and tags.
 
 use crate::forecast::{self, Forecast};
-use crate::lines::{self, Room, LONGEST};
-use crate::module::{self, Answer, Requester, Shape, CUT, DONE, UNCUT};
-use crate::player::{Player, MOST_LINES};
+use crate::module::{self, Answer, Requester, Shape, Touched, CUT, DONE, UNCUT};
+use crate::places;
 use crate::random::Random;
 use crate::reached::Reached;
-use crate::state::State;
+use crate::state::{self, State};
 use std::fmt::Debug;
 
 /// What a check over many files has to reach.
@@ -31,6 +30,8 @@ const SITUATIONS: &[&str] = &[
     "between: changed the record",
     "between: a fault with a block",
     "between: a port access",
+    "between: a straddling read",
+    "between: a straddling write",
     "between: refused",
     "fault: refused 1",
     "fault: refused 11",
@@ -50,27 +51,10 @@ pub fn reached() -> Reached {
 }
 
 /// Plays a whole file and checks; the first difference is an error.
-pub fn file(mut input: &[u8], seed: u64, reached: &mut Reached) -> Result<(), String> {
-    let mut check = Check {
-        random: Random::new(seed),
-        reached,
-    };
-    let mut player = Player::default();
-    let mut line = Vec::new();
-    while player.number < MOST_LINES && lines::next_line(&mut input, &mut line).unwrap_or(false) {
-        let mut room: Room = [0; LONGEST / 2];
-        player.play(lines::parse(&line, &mut room).as_ref());
-        if check.random.per_mille(70) {
-            let state = State {
-                image: player.image.clone(),
-                record: player.record,
-            };
-            check
-                .point(state)
-                .map_err(|what| format!("after line {}: {what}", player.number))?;
-        }
-    }
-    Ok(())
+pub fn file(input: &[u8], seed: u64, reached: &mut Reached) -> Result<(), String> {
+    let random = Random::new(seed);
+    let mut check = Check { random, reached };
+    state::at_points(input, seed, 70, |state| check.point(state))
 }
 
 struct Check<'a> {
@@ -93,14 +77,11 @@ impl Check<'_> {
         let Some(shape) = module::header(&state.image, 0) else {
             return Ok(());
         };
-        let mut other = state.clone();
-        other.scramble(&mut self.random, &shape);
+        let [scrambled, spoilt] = state.others(&mut self.random, &shape);
         if self.random.per_mille(300) {
-            self.every_board(&other, "scrambled, ")?;
+            self.every_board(&scrambled, "scrambled, ")?;
         }
-        let mut other = self.random.pick(&[&state, &other]).clone();
-        other.spoil(&mut self.random, &shape);
-        self.every_board(&other, "spoilt, ")
+        self.every_board(&spoilt, "spoilt, ")
     }
 
     /// The boards below P, one at P or above it.
@@ -283,10 +264,7 @@ impl Check<'_> {
         let before = state.clone();
         let record = state.record;
         let board = self.mostly_outsider(record.members, shape);
-        let size = shape.size();
-        let any = self.random.within(1, size);
-        let n = self.random.pick(&[1, any, size, size]);
-        let cell = self.random.below(shape.blocks) * size + self.random.below(size - n + 1);
+        let (cell, n) = self.place(shape);
         let length = shape.context + self.random.pick(&[0, 0, 1]);
         let bytes = self.bytes(n.max(length));
         let image = &mut state.image;
@@ -319,8 +297,24 @@ impl Check<'_> {
             "between: a fault with a block",
         );
         reached.note_if(answer.code != DONE, "between: refused");
-        let port = kind <= 5 && requester == Requester::Port && answer.code == DONE;
+        let access = kind <= 5 && answer.code == DONE;
+        let port = access && requester == Requester::Port;
         reached.note_if(port, "between: a port access");
+        let straddling = access && Touched::of(shape, cell, n).straddles();
+        reached.note_if(straddling && kind <= 1, "between: a straddling read");
+        reached.note_if(straddling && kind > 1, "between: a straddling write");
+    }
+
+    /// First cell and length, a third of them over a border.
+    fn place(&mut self, shape: &Shape) -> (usize, usize) {
+        let size = shape.size();
+        let block = self.random.below(shape.blocks);
+        let over = places::straddling(&mut self.random, shape, block, size);
+        let any = self.random.within(1, size);
+        let n = self.random.pick(&[1, any, size, size]);
+        let inside = (block * size + self.random.below(size - n + 1), n);
+        over.filter(|_| self.random.per_mille(333))
+            .unwrap_or(inside)
     }
 
     /// A board that is no member; sometimes, or where all are members, any

@@ -3,6 +3,7 @@
 
 use crate::lines::{self, Room, LONGEST};
 use crate::module::{self, Shape};
+use crate::places;
 use crate::player::Player;
 use crate::random::Random;
 
@@ -40,6 +41,8 @@ struct Habits {
     cut: usize,
     format: usize,
     scene: usize,
+    /// Accesses over a border, where blocks have one.
+    straddle: usize,
     most_blocks: usize,
 }
 
@@ -51,6 +54,7 @@ impl Habits {
             cut: random.pick(&[0, 10, 40, 80, 200, 500]),
             format: random.pick(&[2, 5, 10, 30]),
             scene: random.pick(&[10, 30, 100]),
+            straddle: random.pick(&[0, 200, 300, 300, 400, 800]),
             most_blocks: random.pick(&[2, 4, 8, 20]),
         }
     }
@@ -262,8 +266,23 @@ impl Maker {
         self.random.below(shape.blocks)
     }
 
-    /// First cell and length within the block.
+    /// First cell and length within the block, or over one of its borders.
     fn part(&mut self, shape: &Shape, block: usize) -> (usize, usize) {
+        if self.random.per_mille(self.habits.straddle) {
+            self.over_border(shape, block)
+        } else {
+            self.inside(shape, block)
+        }
+    }
+
+    /// Over a border of the block; within it where no access straddles.
+    fn over_border(&mut self, shape: &Shape, block: usize) -> (usize, usize) {
+        let most = self.random.pick(&[6, shape.size()]);
+        places::straddling(&mut self.random, shape, block, most)
+            .unwrap_or_else(|| self.inside(shape, block))
+    }
+
+    fn inside(&mut self, shape: &Shape, block: usize) -> (usize, usize) {
         let size = shape.size();
         let n = match self.random.below(8) {
             0 | 1 => size,
@@ -276,13 +295,27 @@ impl Maker {
     }
 
     fn write(&mut self, shape: &Shape, board: usize, block: usize) -> String {
-        let (cell, n) = self.part(shape, block);
+        let place = self.part(shape, block);
+        self.write_at(board, place)
+    }
+
+    fn write_at(&mut self, board: usize, (cell, n): (usize, usize)) -> String {
         format!("W,{board},{cell},{}", self.hex(n))
     }
 
     fn overwrite(&mut self, shape: &Shape, board: usize, block: usize) -> String {
         let size = shape.size();
-        format!("W,{board},{},{}", block * size, self.hex(size))
+        self.write_at(board, (block * size, size))
+    }
+
+    /// A read or a write over a border of the block.
+    fn straddle(&mut self, shape: &Shape, board: usize, block: usize) -> String {
+        let (cell, n) = self.over_border(shape, block);
+        if self.random.per_mille(500) {
+            format!("R,{board},{cell},{n}")
+        } else {
+            self.write_at(board, (cell, n))
+        }
     }
 
     fn read(&mut self, shape: &Shape, board: usize, block: usize) -> String {
@@ -428,17 +461,21 @@ impl Maker {
     }
 
     /// Boards in any order, each reading, writing or overwriting whole what
-    /// the one before it wrote; then a commit or a fault along the chain.
+    /// the one before it wrote, or reaching over a border into it; then a
+    /// commit or a fault along the chain.
     fn chain_scene(&mut self, shape: &Shape) {
         let mut order: Vec<usize> = (0..shape.boards).collect();
         self.random.shuffle(&mut order);
         order.truncate(self.random.within(2, 16));
         let written = self.random.pick(&[0, 0, 10, 100, 500]);
         let overwritten = self.random.pick(&[0, 0, 100, 500, 1000]);
+        let straddled = self.random.pick(&[0, 0, 200, 500, 1000]);
         for (i, board) in order.iter().enumerate() {
             if i > 0 {
                 let block = (i - 1) % shape.blocks;
-                let line = if self.random.per_mille(overwritten) {
+                let line = if self.random.per_mille(straddled) {
+                    self.straddle(shape, *board, block)
+                } else if self.random.per_mille(overwritten) {
                     self.overwrite(shape, *board, block)
                 } else if self.random.per_mille(written) {
                     self.write(shape, *board, block)

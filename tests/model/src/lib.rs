@@ -1,6 +1,6 @@
 //! The independent test side: a plain model of `rsmrun` and `rsmpage`, the
 //! ledger, the generators of event files. Written from document 01 and Req
-//! 01, 02, 03 and 05 of document 02 alone.
+//! 01, 02, 03, 05 and 06 of document 02 alone.
 #![forbid(unsafe_code)]
 
 pub mod cases;
@@ -15,9 +15,11 @@ pub mod module;
 pub mod page;
 pub mod page_check;
 pub mod pieces;
+pub mod places;
 pub mod player;
 pub mod port_check;
 pub mod random;
 pub mod reached;
 pub mod replay;
 pub mod state;
+pub mod straddle_check;

@@ -5,10 +5,11 @@
 use crate::check::call_of;
 use crate::ledger::{Call, Ledger, Told};
 use crate::lines::{self, Event, Room, LONGEST};
-use crate::module::{self, Answer, Record, CUT, DONE, TAGS, UNCUT};
+use crate::module::{self, Answer, Record, Touched, CUT, DONE, TAGS, UNCUT};
 use crate::page;
 use crate::player::{Played, Player, MOST_LINES};
 use crate::reached::Reached;
+use std::collections::BTreeSet;
 
 /// What a check over many files has to reach.
 const SITUATIONS: &[&str] = &[
@@ -20,6 +21,7 @@ const SITUATIONS: &[&str] = &[
     "decided: no block",
     "decided: several blocks",
     "decided: a block of a board outside",
+    "decided: both blocks of a straddling write",
     "decided: five digits of bytes",
     "decided: K is 0",
     "decided: the file's second shape, or a later one",
@@ -29,6 +31,7 @@ const SITUATIONS: &[&str] = &[
     "decided and cut: before the last store",
     "decided and cut: several members",
     "decided and cut: a block of a board outside",
+    "decided and cut: both blocks of a straddling write",
     "not decided: cut one store before",
     "not decided: a commit dropped by a fault",
     "not decided: a commit dropped by a power-up",
@@ -112,6 +115,7 @@ fn expected(input: &[u8], reached: &mut Reached) -> Result<(String, usize), Stri
     let mut player = Player::default();
     let mut ledger = None;
     let mut shapes = 0;
+    let mut pairs = BTreeSet::new();
     let mut page = Expected::default();
     let mut line = Vec::new();
     while player.number < MOST_LINES && lines::next_line(&mut rest, &mut line).unwrap_or(false) {
@@ -121,7 +125,9 @@ fn expected(input: &[u8], reached: &mut Reached) -> Result<(String, usize), Stri
             continue;
         };
         let earlier = player.clone();
+        let earlier_pairs = pairs.clone();
         let played = player.play(Some(&event));
+        note_pairs(&mut pairs, &event, &played, &player.image);
         if matches!(event, Event::Format(_)) && played.answer.code == DONE {
             shapes += 1;
         }
@@ -145,6 +151,9 @@ fn expected(input: &[u8], reached: &mut Reached) -> Result<(String, usize), Stri
         let tags = earlier.image[TAGS..][..shape.blocks].iter();
         let outside = tags.filter(|tag| **tag != 0).count() as u32 > blocks;
         let several = members.count_ones() > 1;
+        let straddling = earlier_pairs
+            .iter()
+            .any(|(_, tag)| module::tagged(*tag, members));
         let last = rest.is_empty() && input.last() != Some(&b'\n');
         let mut note = |holds, what: &str| reached.note_if(holds, &format!("decided{what}"));
         note(event.letter() == b'C', ": a start");
@@ -155,6 +164,7 @@ fn expected(input: &[u8], reached: &mut Reached) -> Result<(String, usize), Stri
         note(blocks == 0, ": no block");
         note(blocks > 1, ": several blocks");
         note(outside, ": a block of a board outside");
+        note(straddling, ": both blocks of a straddling write");
         note(bytes >= 10_000, ": five digits of bytes");
         note(context == 0, ": K is 0");
         note(shapes > 1, ": the file's second shape, or a later one");
@@ -165,12 +175,29 @@ fn expected(input: &[u8], reached: &mut Reached) -> Result<(String, usize), Stri
             note(played.k == all - 1, " and cut: before the last store");
             note(several, " and cut: several members");
             note(outside, " and cut: a block of a board outside");
+            note(straddling, " and cut: both blocks of a straddling write");
         }
     }
     reached.note_if(page.count == 0, "page: no line");
     reached.note_if(page.count >= 10, "page: ten lines and more");
     page.total();
     Ok((page.text, rest.len()))
+}
+
+/// Keeps the first block and the tag of each straddling write whose blocks
+/// both still have that tag.
+fn note_pairs(pairs: &mut BTreeSet<(usize, u8)>, event: &Event, played: &Played, image: &[u8]) {
+    let Some(shape) = module::header(image, 0) else {
+        return pairs.clear();
+    };
+    if let (Event::Write { board, cell, bytes }, DONE) = (event, played.answer.code) {
+        let touched = Touched::of(&shape, usize::from(*cell), bytes.len());
+        if touched.straddles() {
+            pairs.insert((touched.first, *board as u8 + 1));
+        }
+    }
+    let tags = &image[TAGS..][..shape.blocks];
+    pairs.retain(|(first, tag)| tags.get(*first..first + 2) == Some(&[*tag, *tag]));
 }
 
 /// Tells the ledger of a line and of the power-up that follows a cut; the

@@ -7,7 +7,8 @@
 use crate::check::Checker;
 use crate::ledger::Call;
 use crate::lines::{self, Event, Room, LONGEST};
-use crate::module::{self, Answer, Record, Requester, Shape, CUT, DONE, TAGS, UNCUT};
+use crate::module::{self, Answer, Record, Requester, Shape, Touched, CUT, DONE, TAGS, UNCUT};
+use crate::places;
 use crate::player::{Played, Player, MOST_LINES};
 use crate::random::Random;
 use crate::reached::Reached;
@@ -26,12 +27,17 @@ const SITUATIONS: &[&str] = &[
     "law: refused 11 for the header",
     "law: refused 11 for the header, n above 4",
     "law: refused 11 for the tag",
+    "law: refused 11 for the tag of the first block, straddling",
+    "law: refused 11 for the tag of the last block, straddling",
     "law: refused 12",
     "law: refused 12, n above 4",
     "law: refused 13, P - 1 is a member",
     "law: refused 13, a member's block",
+    "law: refused 13, the first block a member's, straddling",
+    "law: refused 13, the last block a member's, straddling",
     "law: refused 17",
     "law: refused 17, n is 5",
+    "law: refused 17, straddling",
     "law: refused 17, the board's access refused 5",
     "law: refused 17, the board's access refused 11 for the tag",
     "law: refused 17, the board's access refused 13",
@@ -40,22 +46,31 @@ const SITUATIONS: &[&str] = &[
     "law: taken, n is 4 and S above 4",
     "law: taken, n is 4 and S is 4",
     "law: taken, n is S and S below 4",
+    "law: taken, straddling",
     "law: taken, P is 1",
     "law: taken, P is 2",
     "law: taken, P is 16",
     "port access: refused 17",
     "port access: refused 13, P - 1 is a member",
     "port access: refused 13, a member's block",
+    "port access: refused 13, straddling",
     "port access: read, no link",
     "port access: read that links",
     "port access: read of a member's block",
+    "port access: straddling read",
+    "port access: straddling read of two other writers' blocks",
     "port access: write to a clean block",
     "port access: write to a block of P - 1",
     "port access: short write that links",
     "port access: whole overwrite that links",
+    "port access: straddling write",
+    "port access: straddling write over two other writers' blocks",
+    "port access: straddling write of S cells that links",
     "port access: write cut before the tag",
     "port access: write cut after the tag",
     "port access: write cut over another board's block",
+    "port access: straddling write cut between the tags",
+    "port access: straddling write cut between the blocks' bytes",
     "port access: P is 1",
     "port access: P is 16",
     "port access: S below 4",
@@ -131,6 +146,12 @@ impl Access {
             Access::Read { n, .. } => *n,
             Access::Write { bytes, .. } => bytes.len(),
         }
+    }
+
+    /// The tags of the first and the last block, if these are two.
+    fn two_tags(&self, shape: &Shape, image: &[u8]) -> Option<[u8; 2]> {
+        let Touched { first, last } = Touched::of(shape, self.cell(), self.length());
+        (first != last).then(|| [first, last].map(|block| image[TAGS + block]))
     }
 
     /// Makes the access; gives the answer, the next record and the buffer.
@@ -315,35 +336,61 @@ impl Check<'_> {
         let member = members >> (shape.boards - 1) & 1 == 1;
         match answer.code {
             DONE | CUT => {}
-            13 if member => return reached.note("port access: refused 13, P - 1 is a member"),
-            13 => return reached.note("port access: refused 13, a member's block"),
+            13 => {
+                let two = access.two_tags(&shape, &before.image).is_some();
+                reached.note_if(two, "port access: refused 13, straddling");
+                return reached.note(if member {
+                    "port access: refused 13, P - 1 is a member"
+                } else {
+                    "port access: refused 13, a member's block"
+                });
+            }
             17 => return reached.note("port access: refused 17"),
             _ => return,
         }
         reached.note_if(shape.boards == 1, "port access: P is 1");
         reached.note_if(shape.boards == 16, "port access: P is 16");
         reached.note_if(shape.size() < 4, "port access: S below 4");
-        let block = access.cell() >> shape.power;
-        let tag = before.image[TAGS + block];
+        let two_tags = access.two_tags(&shape, &before.image);
+        let others = two_tags.is_some_and(|[first, last]| {
+            let another = |tag| tag != 0 && usize::from(tag) != shape.boards;
+            first != last && another(first) && another(last)
+        });
         match access {
             Access::Read { .. } => {
                 let links = self.player.record != before.record;
                 reached.note_if(links, "port access: read that links");
                 reached.note_if(!links, "port access: read, no link");
-                let members = module::tagged(tag, members);
-                reached.note_if(members, "port access: read of a member's block");
+                let mut blocks = Touched::of(&shape, access.cell(), access.length()).blocks();
+                let closed = blocks.any(|b| module::tagged(before.image[TAGS + b], members));
+                reached.note_if(closed, "port access: read of a member's block");
+                reached.note_if(two_tags.is_some(), "port access: straddling read");
+                reached.note_if(
+                    others,
+                    "port access: straddling read of two other writers' blocks",
+                );
             }
-            Access::Write { bytes, .. } => {
-                self.note_write(block, bytes.len() == shape.size(), answer, before, &shape);
+            Access::Write { cell, bytes, .. } => {
+                let n = bytes.len();
+                match two_tags {
+                    None => self.note_write(cell >> shape.power, n, answer, before, &shape),
+                    Some(tags) => {
+                        reached.note_if(
+                            others,
+                            "port access: straddling write over two other writers' blocks",
+                        );
+                        self.note_straddling_write(*cell, n, tags, answer, before, &shape);
+                    }
+                }
             }
         }
     }
 
-    /// A port write, done or cut.
+    /// A port write to one block, done or cut.
     fn note_write(
         &mut self,
         block: usize,
-        whole: bool,
+        n: usize,
         answer: &Answer,
         before: &State,
         shape: &Shape,
@@ -359,6 +406,7 @@ impl Check<'_> {
             return;
         }
         let links = self.player.record != before.record;
+        let whole = n == shape.size();
         reached.note_if(tag == 0, "port access: write to a clean block");
         reached.note_if(
             tag == shape.boards,
@@ -367,6 +415,42 @@ impl Check<'_> {
         reached.note_if(links && !whole, "port access: short write that links");
         reached.note_if(links && whole, "port access: whole overwrite that links");
         self.written.insert(block);
+    }
+
+    /// A port write over a border, done or cut; the tags are those before it.
+    fn note_straddling_write(
+        &mut self,
+        cell: usize,
+        n: usize,
+        tags: [u8; 2],
+        answer: &Answer,
+        before: &State,
+        shape: &Shape,
+    ) {
+        let reached = &mut *self.reached;
+        let touched = Touched::of(shape, cell, n);
+        if answer.code == CUT {
+            let differ = tags.map(|tag| usize::from(tag) != shape.boards);
+            let between_tags = differ == [true; 2] && answer.stores == 1;
+            reached.note_if(
+                between_tags,
+                "port access: straddling write cut between the tags",
+            );
+            // All tags and the bytes up to the border.
+            let tags = differ.iter().filter(|differs| **differs).count();
+            let border = tags + touched.last * shape.size() - cell;
+            let between_bytes = answer.stores as usize == border;
+            reached.note_if(
+                between_bytes,
+                "port access: straddling write cut between the blocks' bytes",
+            );
+            return;
+        }
+        reached.note("port access: straddling write");
+        let links = self.player.record != before.record;
+        let full = links && n == shape.size();
+        reached.note_if(full, "port access: straddling write of S cells that links");
+        self.written.extend(touched.blocks());
     }
 
     /// What a line did to blocks that the port wrote.
@@ -386,8 +470,12 @@ impl Check<'_> {
                 self.forget("port write: rolled back by a cut and a power-up");
             }
             _ if answer.code != DONE => {}
-            Event::Read { board, cell, .. } => self.note_board(board, cell, &shape, "read"),
-            Event::Write { board, cell, .. } => self.note_board(board, cell, &shape, "written"),
+            Event::Read { board, cell, n } => {
+                self.note_board(board, cell, n.into(), &shape, "read");
+            }
+            Event::Write { board, cell, bytes } => {
+                self.note_board(board, cell, bytes.len(), &shape, "written");
+            }
             Event::Start { .. } if cleared && answer.decided => {
                 self.forget("port write: kept by a commit that P - 1 started");
             }
@@ -407,8 +495,9 @@ impl Check<'_> {
     }
 
     /// A board's access to a block that the port wrote.
-    fn note_board(&mut self, board: u16, cell: u16, shape: &Shape, how: &str) {
-        let port = self.written.contains(&(usize::from(cell) >> shape.power));
+    fn note_board(&mut self, board: u16, cell: u16, n: usize, shape: &Shape, how: &str) {
+        let mut blocks = Touched::of(shape, cell.into(), n).blocks();
+        let port = blocks.any(|block| self.written.contains(&block));
         if port && usize::from(board) + 1 != shape.boards {
             let situation = format!("port write: its block {how} by a board");
             self.reached.note(&situation);
@@ -445,20 +534,33 @@ impl Check<'_> {
     }
 
     /// A random access: of all lengths about the limits, mostly inside a
-    /// block. So many of a thousand are wild, so many writes are cut.
+    /// block or over its border. So many of a thousand are wild, so many
+    /// writes are cut.
     fn access(&mut self, shape: &Shape, wild: usize, cut: usize) -> Access {
-        let size = shape.size();
-        let n = self.length(size, wild);
-        let inside = self.block(shape) * size + self.random.below(size.saturating_sub(n) + 1);
-        let cell = if self.random.per_mille(wild) {
-            self.anywhere(shape.cells(), n)
-        } else {
-            inside
-        };
+        let (cell, n) = self.place(shape, wild);
         if self.random.per_mille(450) {
             self.read(cell, n)
         } else {
             self.write(cell, n, cut)
+        }
+    }
+
+    /// First cell and length, a third of them over a border.
+    fn place(&mut self, shape: &Shape, wild: usize) -> (usize, usize) {
+        let size = shape.size();
+        let block = self.block(shape);
+        if self.random.per_mille(333) {
+            let most = self.random.pick(&[4, 4, 4, 5, size]);
+            if let Some(place) = places::straddling(&mut self.random, shape, block, most) {
+                return place;
+            }
+        }
+        let n = self.length(size, wild);
+        if self.random.per_mille(wild) {
+            (self.anywhere(shape.cells(), n), n)
+        } else {
+            let inside = self.random.below(size.saturating_sub(n) + 1);
+            (block * size + inside, n)
         }
     }
 
@@ -507,8 +609,8 @@ impl Check<'_> {
     fn write(&mut self, cell: usize, n: usize, cut: usize) -> Access {
         let random = &mut self.random;
         let bytes: Vec<u8> = (0..n).map(|_| random.below(256) as u8).collect();
-        let some = random.below(n + 2);
-        let k = random.pick(&[0, 1, some, n.saturating_sub(1), n, n + 1]) as u32;
+        let some = random.below(n + 3);
+        let k = random.pick(&[0, 1, 2, some, n.saturating_sub(1), n, n + 1]) as u32;
         let k = if random.per_mille(cut) { k } else { UNCUT };
         Access::Write { cell, bytes, k }
     }
@@ -519,12 +621,9 @@ impl Check<'_> {
         let shape = module::header(&state.image, 0);
         self.laws(&state, &shape.unwrap_or(ANY), "")?;
         let Some(shape) = shape else { return Ok(()) };
-        let mut other = state.clone();
-        other.scramble(&mut self.random, &shape);
-        self.laws(&other, &shape, "scrambled, ")?;
-        let mut other = self.random.pick(&[&state, &other]).clone();
-        other.spoil(&mut self.random, &shape);
-        self.laws(&other, &shape, "spoilt, ")
+        let [scrambled, spoilt] = state.others(&mut self.random, &shape);
+        self.laws(&scrambled, &shape, "scrambled, ")?;
+        self.laws(&spoilt, &shape, "spoilt, ")
     }
 
     fn laws(&mut self, state: &State, shape: &Shape, kind: &str) -> Result<(), String> {
@@ -553,6 +652,9 @@ impl Check<'_> {
         let port = Outcome::of(access, state, Requester::Port);
         if !earlier && access.length() > 4 {
             port.agree(&Outcome::refused(17, access, state))?;
+            let two_tags = shape.and_then(|shape| access.two_tags(&shape, &state.image));
+            self.reached
+                .note_if(two_tags.is_some(), "law: refused 17, straddling");
             self.note_17(access, &board.answer);
         } else {
             port.agree(&board)?;
@@ -584,7 +686,15 @@ impl Check<'_> {
             return;
         };
         let (boards, size) = (shape.boards, shape.size());
-        let member = state.record.members >> (boards - 1) & 1 == 1;
+        let members = state.record.members;
+        let member = members >> (boards - 1) & 1 == 1;
+        if let DONE | 11 | 13 = answer.code {
+            if let Some(tags) = access.two_tags(shape, &state.image) {
+                let above = tags.map(|tag| usize::from(tag) > boards);
+                let closed = tags.map(|tag| !member && module::tagged(tag, members));
+                note_straddling(reached, answer.code, above, closed);
+            }
+        }
         match answer.code {
             CUT => reached.note("law: cut"),
             2 => note_2(reached, n, size),
@@ -606,6 +716,27 @@ impl Check<'_> {
                 reached.note_if(boards == 16, "law: taken, P is 16");
             }
         }
+    }
+}
+
+/// An access over a border: whether a tag is above P or a member's, of the
+/// first block and of the last one.
+fn note_straddling(reached: &mut Reached, code: u8, above: [bool; 2], closed: [bool; 2]) {
+    match (code, above, closed) {
+        (11, [true, false], _) => {
+            reached.note("law: refused 11 for the tag of the first block, straddling");
+        }
+        (11, [false, true], _) => {
+            reached.note("law: refused 11 for the tag of the last block, straddling");
+        }
+        (13, _, [true, false]) => {
+            reached.note("law: refused 13, the first block a member's, straddling");
+        }
+        (13, _, [false, true]) => {
+            reached.note("law: refused 13, the last block a member's, straddling");
+        }
+        (DONE, ..) => reached.note("law: taken, straddling"),
+        _ => {}
     }
 }
 

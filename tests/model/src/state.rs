@@ -1,7 +1,9 @@
-//! A state of the module, and how to make others of it that no list of calls
-//! leaves.
+//! The states that an event file goes through, and how to make others of them
+//! that no list of calls leaves.
 
+use crate::lines::{self, Room, LONGEST};
 use crate::module::{Record, Shape, TAGS};
+use crate::player::{Player, MOST_LINES};
 use crate::random::Random;
 
 #[derive(Clone)]
@@ -10,7 +12,41 @@ pub struct State {
     pub record: Record,
 }
 
+/// Plays a whole file; after so many of a thousand lines the check looks at
+/// the state there. The first difference is an error.
+pub fn at_points(
+    mut input: &[u8],
+    seed: u64,
+    often: usize,
+    mut check: impl FnMut(State) -> Result<(), String>,
+) -> Result<(), String> {
+    let mut random = Random::new(!seed);
+    let mut player = Player::default();
+    let mut line = Vec::new();
+    while player.number < MOST_LINES && lines::next_line(&mut input, &mut line).unwrap_or(false) {
+        let mut room: Room = [0; LONGEST / 2];
+        player.play(lines::parse(&line, &mut room).as_ref());
+        if random.per_mille(often) {
+            let state = State {
+                image: player.image.clone(),
+                record: player.record,
+            };
+            check(state).map_err(|what| format!("after line {}: {what}", player.number))?;
+        }
+    }
+    Ok(())
+}
+
 impl State {
+    /// A scrambled copy, and a spoilt one of this state or of that copy.
+    pub fn others(&self, random: &mut Random, shape: &Shape) -> [State; 2] {
+        let mut scrambled = self.clone();
+        scrambled.scramble(random, shape);
+        let mut spoilt = random.pick(&[self, &scrambled]).clone();
+        spoilt.spoil(random, shape);
+        [scrambled, spoilt]
+    }
+
     pub fn tags(&self, shape: &Shape) -> impl Iterator<Item = usize> + '_ {
         let tags = &self.image[TAGS..][..shape.blocks];
         tags.iter().map(|tag| usize::from(*tag))
@@ -21,7 +57,7 @@ impl State {
     }
 
     /// Random rows and tags, sometimes a commit open.
-    pub fn scramble(&mut self, random: &mut Random, shape: &Shape) {
+    fn scramble(&mut self, random: &mut Random, shape: &Shape) {
         let boards = shape.boards;
         let all = ((1_u32 << boards) - 1) as u16;
         let mut record = Record::on();
@@ -51,7 +87,7 @@ impl State {
 
     /// Something of header, length, tags or record becomes another, one to
     /// three times.
-    pub fn spoil(&mut self, random: &mut Random, shape: &Shape) {
+    fn spoil(&mut self, random: &mut Random, shape: &Shape) {
         let State { image, record } = self;
         for _ in 0..random.pick(&[1, 1, 2, 3]) {
             let bit = 1 << random.below(16);

@@ -1,9 +1,9 @@
 //! `fuzz RSMRUN RSMPAGE COUNT SEED` compares the programs with the model on
 //! generated files and runs the ledger check, the forecast check, the port
-//! check and the page check on each. Half of the files go through a pipe, in
-//! random pieces. The script `tests/fuzz` calls it.
+//! check, the page check and the straddling check on each. Half of the files
+//! go through a pipe, in random pieces. The script `tests/fuzz` calls it.
 use model::{check, forecast_check, generate, page, page_check, pieces, player, port_check};
-use model::{page::MOST_COMMITS, random::Random};
+use model::{page::MOST_COMMITS, random::Random, straddle_check};
 use std::fs::{self, File};
 use std::io::{self, Read, Write};
 use std::path::Path;
@@ -64,6 +64,7 @@ fn compare(programs: [&str; 2], count: u64, seed: u64, folder: &Path) -> Result<
     let mut forecasts_reached = forecast_check::reached();
     let mut ports_reached = port_check::reached();
     let mut pages_reached = page_check::reached();
+    let mut straddles_reached = straddle_check::reached();
     for i in 0..count {
         let file_seed = seed.wrapping_mul(1_000_003).wrapping_add(i);
         let events = match i {
@@ -84,6 +85,7 @@ fn compare(programs: [&str; 2], count: u64, seed: u64, folder: &Path) -> Result<
         let forecasts = forecast_check::file(&events, file_seed, &mut forecasts_reached);
         let ports = port_check::file(&events, file_seed, &mut ports_reached);
         let pages = page_check::file(&events, file_seed, &mut pages_reached);
+        let straddles = straddle_check::file(&events, file_seed, &mut straddles_reached);
         let keep = |name: &str, bytes: &[u8]| fs::write(folder.join(name), bytes).map_err(failed);
         let (given, lengths) = match &pieces {
             None => ("", String::new()),
@@ -110,6 +112,12 @@ fn compare(programs: [&str; 2], count: u64, seed: u64, folder: &Path) -> Result<
         forecasts.map_err(|what| format!("{kept}\nforecasts: {what}"))?;
         ports.map_err(|what| format!("{kept}\nports: {what}"))?;
         pages.map_err(|what| format!("{kept}\npages: {what}"))?;
+        straddles.map_err(|what| format!("{kept}\nstraddling: {what}"))?;
+    }
+    // So many files reach every situation of the straddling check.
+    let never = straddles_reached.counts().find(|(_, count)| *count == 0);
+    if let (Some((situation, _)), 1000..) = (never, count) {
+        return Err(format!("straddling: never reached: {situation}"));
     }
     let reached = |names: &[&str]| {
         let counts = pages_reached.counts();
