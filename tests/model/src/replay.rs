@@ -1,7 +1,9 @@
 //! The replay files: fixed event files that together reach every situation
-//! of document 01 and of Req 01 and 05 of document 02 that lines can reach.
+//! of document 01 and of Req 01, 05 and 06 of document 02 that lines can
+//! reach.
 
 mod pages;
+mod straddles;
 
 use crate::generate;
 use crate::lines::{self, Room, LONGEST};
@@ -146,6 +148,7 @@ pub fn all() -> Vec<Replay> {
     slips(&mut add);
     large(&mut add);
     pages::add(&mut add);
+    straddles::add(&mut add);
     generated(&mut add);
     files
 }
@@ -658,7 +661,7 @@ fn formats(add: Add) {
 fn accesses(add: Add) {
     add(
         "access_edges",
-        "n = S at a block's start taken, one cell on refused 2; each S",
+        "n = S at a block's start taken, one cell on too, refused 2 in the last block; each S",
         &|s| {
             for size in [1, 2, 4, 8, 16, 32, 64] {
                 let end = 3 * size;
@@ -687,10 +690,11 @@ fn accesses(add: Add) {
         s.lines("W,0,16383,01 W,0,16383,0102 W,0,16384,01 R,0,16320,64");
     });
     add(
-        "one_block_at_a_time",
-        "an access over two blocks is refused 2, also for two writers",
+        "two_blocks_at_a_time",
+        "an access over two blocks is taken, also for two writers; not by a member",
         &|s| {
             s.lines("F,2,4,2,0 W,0,3,0102 R,0,3,2 W,0,3,01 W,1,4,02 R,0,2,2 R,0,2,3 R,1,4,4 R,1,1,4 C,0, C,1, X,0");
+            s.lines("W,0,0,01 W,1,4,02 X,0 X,1 W,0,0,01 W,1,4,02 R,0,3,2 R,1,3,2 C,1, R,1,3,2 W,0,3,0304 A,0, R,0,0,4 R,0,4,4");
         },
     );
     add(
@@ -722,7 +726,7 @@ fn answers(add: Add) {
             s.lines("F,3,2,4,1");
             // 1, 2, 3.
             s.lines(
-                "R,3,0,1 W,3,0,01 C,3,01 A,3,01 X,3 R,0,1,2 W,0,1,0102 C,0, C,0,0102 A,0, A,0,0102",
+                "R,3,0,1 W,3,0,01 C,3,01 A,3,01 X,3 R,0,7,2 W,0,7,0102 C,0, C,0,0102 A,0, A,0,0102",
             );
             // 15, done, 13, 14, 16, decided.
             s.lines("A,0,01 W,0,0,0102 R,1,0,2 C,1,A1 R,1,0,1 W,1,2,01 W,2,0,01 R,2,0,1 C,2,01 C,1,01 A,2,01 A,1,01");
@@ -740,8 +744,8 @@ fn answers(add: Add) {
             s.lines("R,99,99,99 W,99,99, C,99,0102 A,99,01 X,99");
             // 1 before 2 and 3; 2 before 13; 3 before 14, 15, 16.
             s.lines("F,3,2,2,1 R,3,9,0 W,3,9, C,3, A,3,0102 A,0, A,0,01 W,0,0,01 R,1,0,1 C,1,AA");
-            s.lines("R,1,1,2 W,1,1,0102 W,0,9, R,3,0,1 W,3,0,01 C,0, C,0,01 C,3,01 C,1,01 A,2, A,2,01 A,1, A,1,01 A,3,01");
-            s.lines("R,0,0,1 W,0,0,01 W,2,0,01 W,2,1,0102 X,3 F,3,2,2,65 A,0,BB A,0,BB");
+            s.lines("R,1,3,2 W,1,3,0102 W,0,9, R,3,0,1 W,3,0,01 C,0, C,0,01 C,3,01 C,1,01 A,2, A,2,01 A,1, A,1,01 A,3,01");
+            s.lines("R,0,0,1 W,0,0,01 W,2,0,01 W,2,3,0102 X,3 F,3,2,2,65 A,0,BB A,0,BB");
         },
     );
     add(
@@ -1079,8 +1083,13 @@ fn each_side(s: &mut Script, size: usize, first: usize, n: usize) {
 /// Each end after the same lines, with a look at the block; a power-up parts
 /// them.
 fn each_end(s: &mut Script, before: &str, ends: &[&str]) {
+    each_end_seen(s, "R,3,0,2", before, ends);
+}
+
+/// The same with another look.
+fn each_end_seen(s: &mut Script, look: &str, before: &str, ends: &[&str]) {
     for end in ends {
-        s.lines(format!("{before} {end} R,3,0,2 U"));
+        s.lines(format!("{before} {end} {look} U"));
     }
 }
 
