@@ -466,7 +466,8 @@ impl Maker {
     fn chain_scene(&mut self, shape: &Shape) {
         let mut order: Vec<usize> = (0..shape.boards).collect();
         self.random.shuffle(&mut order);
-        order.truncate(self.random.within(2, 16));
+        let some = self.random.within(2, 16);
+        order.truncate(self.random.pick(&[some, some, 16]));
         let written = self.random.pick(&[0, 0, 10, 100, 500]);
         let overwritten = self.random.pick(&[0, 0, 100, 500, 1000]);
         let straddled = self.random.pick(&[0, 0, 200, 500, 1000]);

@@ -1,24 +1,9 @@
 //! Whole overwrites and short writes (Req 01 of document 02). Each table is
 //! written by hand from documents 01 and 02, an event line and its answer a
 //! line; an answer by itself is the U that follows a cut.
-use model::check;
-use model::player::answers;
+mod tables;
 
-fn table(text: &str) {
-    let mut events = String::new();
-    let mut expected = String::new();
-    for line in text.lines().filter(|line| !line.is_empty()) {
-        let mut fields = line.split_ascii_whitespace().rev();
-        expected += &format!("{}\n", fields.next().unwrap());
-        if let Some(event) = fields.next() {
-            events += &format!("{event}\n");
-        }
-    }
-    let made = String::from_utf8(answers(events.as_bytes())).unwrap();
-    assert_eq!(made, expected);
-    let lines = events.lines().count() as u32;
-    assert_eq!(check::file(events.as_bytes()), Ok(lines), "the ledger");
-}
+use tables::lines as table;
 
 /// The old writer is rolled back alone, the writer's bytes stay; its other
 /// block goes back. Afterwards nothing binds it to the writer.

@@ -1,8 +1,11 @@
 //! The service port of Req 03 of document 02: by hand, as requests of
 //! `cases`, and in random histories.
+mod tables;
+
 use model::cases;
 use model::generate;
 use model::port_check;
+use tables::requests as table;
 
 /// The status of each request that has one.
 fn statuses(requests: &str) -> Vec<u8> {
@@ -12,16 +15,6 @@ fn statuses(requests: &str) -> Vec<u8> {
         .filter_map(|line| line.split_once(" : "))
         .map(|(_, answer)| answer.split(' ').next().unwrap().parse().unwrap())
         .collect()
-}
-
-/// Each line is a request and its answer.
-fn table(text: &str) {
-    let requests: String = text
-        .lines()
-        .skip(1)
-        .map(|line| format!("{}\n", line.split(" : ").next().unwrap()))
-        .collect();
-    assert_eq!(cases::answers(&requests).unwrap(), text[1..]);
 }
 
 /// n of 0, 1, 4, 5, S and S + 1 in the first block, by board P - 1 and by the
@@ -75,18 +68,21 @@ fn lengths() {
     }
 }
 
-/// 5 cells within a block, over its border, past the last cell; S is 8.
+/// 5 cells and 4 within a block, over its border, past the last cell; S is 8.
 #[test]
 fn borders() {
     let format = "F,65535,3,8,2,0,46";
     for (cell, n, status) in [
         (3, 5, 17),
-        (4, 5, 2),
+        (4, 5, 17),
         (4, 4, 0),
-        (5, 4, 2),
+        (5, 4, 0),
+        (7, 2, 0),
         (11, 5, 17),
         (12, 5, 2),
         (12, 4, 0),
+        (13, 4, 2),
+        (15, 2, 2),
         (16, 5, 2),
         (16, 1, 2),
     ] {
@@ -235,7 +231,7 @@ U,65535 : 0 0 0000 0 image same, record changed, buffer same
 
 /// The word `port` stands for the board of an access and nowhere else.
 #[test]
-fn requests() {
+fn words() {
     for wrong in [
         "X,0,port",
         "C,0,port,0,0",
