@@ -694,7 +694,8 @@ fn accesses(add: Add) {
         "an access over two blocks is taken, also for two writers; not by a member",
         &|s| {
             s.lines("F,2,4,2,0 W,0,3,0102 R,0,3,2 W,0,3,01 W,1,4,02 R,0,2,2 R,0,2,3 R,1,4,4 R,1,1,4 C,0, C,1, X,0");
-            s.lines("W,0,0,01 W,1,4,02 X,0 X,1 W,0,0,01 W,1,4,02 R,0,3,2 R,1,3,2 C,1, R,1,3,2 W,0,3,0304 A,0, R,0,0,4 R,0,4,4");
+            s.lines("W,0,0,01 W,1,4,02 X,0 X,1 W,0,0,01 W,1,4,02 R,0,3,2 R,1,3,2 C,1, R,1,3,2");
+            s.lines("W,0,3,0304 A,0, R,0,0,4 R,0,4,4");
         },
     );
     add(

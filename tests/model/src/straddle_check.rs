@@ -3,7 +3,7 @@
 //! come to, and such a write, cut at every k and powered up, is undone with
 //! all other pending writes.
 
-use crate::module::{self, Answer, Record, Requester, Shape, Touched, CUT, DONE, TAGS, UNCUT};
+use crate::module::{self, Answer, Record, Requester, Shape, CUT, DONE, TAGS, UNCUT};
 use crate::places;
 use crate::random::Random;
 use crate::reached::Reached;
@@ -74,8 +74,14 @@ struct Access {
 }
 
 impl Access {
-    fn touched(&self, shape: &Shape) -> Touched {
-        Touched::of(shape, self.cell, self.bytes.len())
+    /// The blocks on either side of the border.
+    fn blocks(&self, shape: &Shape) -> [usize; 2] {
+        let first = self.cell / shape.size();
+        [first, first + 1]
+    }
+
+    fn tags(&self, state: &State, shape: &Shape) -> [u8; 2] {
+        self.blocks(shape).map(|block| state.image[TAGS + block])
     }
 
     fn board(&self, shape: &Shape) -> usize {
@@ -87,7 +93,8 @@ impl Access {
 
     /// What lies before the border, and what lies after it.
     fn parts(&self, shape: &Shape) -> [Access; 2] {
-        let border = self.touched(shape).last * shape.size();
+        let [_, last] = self.blocks(shape);
+        let border = last * shape.size();
         let (before, after) = self.bytes.split_at(border - self.cell);
         [(self.cell, before), (border, after)].map(|(cell, bytes)| Access {
             by: self.by,
@@ -114,10 +121,9 @@ impl Access {
     /// The stores of the write, by their places: the tags that differ, the
     /// first block's before the last one's, then all bytes.
     fn stores(&self, state: &State, shape: &Shape) -> Vec<(usize, u8)> {
-        let Touched { first, last } = self.touched(shape);
         let tag = self.board(shape) as u8 + 1;
         let mut stores = Vec::new();
-        for at in [TAGS + first, TAGS + last] {
+        for at in self.blocks(shape).map(|block| TAGS + block) {
             if state.image[at] != tag {
                 stores.push((at, tag));
             }
@@ -363,8 +369,7 @@ impl Check<'_> {
         let reached = &mut *self.reached;
         let members = state.record.members;
         let member = members >> access.board(shape) & 1 == 1;
-        let Touched { first, last } = access.touched(shape);
-        let tags = [first, last].map(|block| state.image[TAGS + block]);
+        let tags = access.tags(state, shape);
         let closed = tags.map(|tag| module::tagged(tag, members));
         let above = tags.map(|tag| usize::from(tag) > shape.boards);
         match code {
@@ -397,9 +402,8 @@ impl Check<'_> {
         reached.note_if(links == 2, "write: done, links with two boards");
         let full = access.bytes.len() == shape.size();
         reached.note_if(full && links > 0, "write: done, S cells, links");
-        let Touched { first, last } = access.touched(shape);
-        let tag = access.board(shape) as u8 + 1;
-        let differ = [first, last].map(|block| state.image[TAGS + block] != tag);
+        let own = access.board(shape) as u8 + 1;
+        let differ = access.tags(state, shape).map(|tag| tag != own);
         reached.note(match differ {
             [false, false] => "stores: no tag",
             [true, false] => "stores: the first block's tag",
@@ -415,7 +419,6 @@ impl Check<'_> {
     fn note_undone(&mut self, access: &Access, state: &State, shape: &Shape) {
         let reached = &mut *self.reached;
         let board = access.board(shape);
-        let Touched { first, last } = access.touched(shape);
         // The boards whose pending bytes the write covers.
         let covered = (access.cell..access.cell + access.bytes.len()).filter_map(|cell| {
             let [current, recovery] = [shape.current(), shape.recovery()];
@@ -425,8 +428,9 @@ impl Check<'_> {
         let covered: Vec<usize> = covered.collect();
         let own = covered.contains(&(board + 1));
         let another = covered.iter().any(|tag| *tag != board + 1);
+        let blocks = access.blocks(shape);
         let others = (0..shape.blocks)
-            .any(|block| block != first && block != last && state.image[TAGS + block] != 0);
+            .any(|block| !blocks.contains(&block) && state.image[TAGS + block] != 0);
         reached.note_if(own, "undone: over one's own pending bytes");
         reached.note_if(another, "undone: over another board's pending bytes");
         reached.note_if(others, "undone: with other blocks tagged");
@@ -440,14 +444,9 @@ impl Check<'_> {
 
 /// The boards that the tags of the access's blocks name.
 fn writers(access: &Access, state: &State, shape: &Shape) -> u16 {
+    let tags = access.tags(state, shape).map(usize::from);
     (0..shape.boards)
-        .filter(|board| {
-            let mut tags = access
-                .touched(shape)
-                .blocks()
-                .map(|b| state.image[TAGS + b]);
-            tags.any(|tag| usize::from(tag) == board + 1)
-        })
+        .filter(|board| tags.contains(&(board + 1)))
         .map(|board| 1 << board)
         .sum()
 }
