@@ -1,7 +1,7 @@
 //! The program `cases` of the gate: plays a file of requests on the module
 //! and prints each with its answer. What a request looks like stands at the
 //! head of crates/cases/src/main.rt; what is answered is document 01's, with
-//! Req 01, 02 and 03 of document 02.
+//! Req 01, 02, 03 and 06 of document 02.
 
 use crate::forecast::{self, Forecast};
 use crate::lines;

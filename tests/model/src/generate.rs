@@ -363,6 +363,8 @@ impl Maker {
     fn wrong(&mut self, shape: &Shape) -> String {
         let (size, cells) = (shape.size(), shape.cells());
         let board = self.random.below(shape.boards);
+        // From here on S cells pass the last one.
+        let too_late = cells - self.random.below(size);
         let beyond = self
             .random
             .pick(&[shape.boards, shape.boards + 1, 16, 17, 255, 256, 65_535]);
@@ -386,7 +388,9 @@ impl Maker {
             4 => format!("X,{beyond}"),
             5 => {
                 let n = self.random.pick(&[0, size + 1, size, 65_535]);
-                format!("R,{board},{},{n}", self.random.below(cells))
+                let cell = self.random.below(cells);
+                let cell = self.random.pick(&[cell, too_late]);
+                format!("R,{board},{cell},{n}")
             }
             6 => {
                 let cell = self
@@ -400,7 +404,9 @@ impl Maker {
             }
             7 => {
                 let n = self.random.pick(&[0, 1, size, size + 1]);
-                format!("W,{board},{},{}", self.random.below(cells + 2), self.hex(n))
+                let cell = self.random.below(cells + 2);
+                let cell = self.random.pick(&[cell, too_late]);
+                self.write_at(board, (cell, n))
             }
             8 => format!("C,{board},{}", self.hex(context)),
             9 => format!("A,{board},{}", self.hex(context)),

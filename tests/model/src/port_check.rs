@@ -351,38 +351,36 @@ impl Check<'_> {
         reached.note_if(shape.boards == 1, "port access: P is 1");
         reached.note_if(shape.boards == 16, "port access: P is 16");
         reached.note_if(shape.size() < 4, "port access: S below 4");
-        let two_tags = access.two_tags(&shape, &before.image);
-        let others = two_tags.is_some_and(|[first, last]| {
-            let another = |tag| tag != 0 && usize::from(tag) != shape.boards;
-            first != last && another(first) && another(last)
-        });
         match access {
-            Access::Read { .. } => {
-                let links = self.player.record != before.record;
-                reached.note_if(links, "port access: read that links");
-                reached.note_if(!links, "port access: read, no link");
-                let mut blocks = Touched::of(&shape, access.cell(), access.length()).blocks();
-                let closed = blocks.any(|b| module::tagged(before.image[TAGS + b], members));
-                reached.note_if(closed, "port access: read of a member's block");
-                reached.note_if(two_tags.is_some(), "port access: straddling read");
-                reached.note_if(
-                    others,
-                    "port access: straddling read of two other writers' blocks",
-                );
-            }
+            Access::Read { .. } => self.note_read(access, before, &shape),
             Access::Write { cell, bytes, .. } => {
                 let n = bytes.len();
-                match two_tags {
+                match access.two_tags(&shape, &before.image) {
                     None => self.note_write(cell >> shape.power, n, answer, before, &shape),
                     Some(tags) => {
-                        reached.note_if(
-                            others,
-                            "port access: straddling write over two other writers' blocks",
-                        );
                         self.note_straddling_write(*cell, n, tags, answer, before, &shape);
                     }
                 }
             }
+        }
+    }
+
+    fn note_read(&mut self, access: &Access, before: &State, shape: &Shape) {
+        let reached = &mut *self.reached;
+        let links = self.player.record != before.record;
+        reached.note_if(links, "port access: read that links");
+        reached.note_if(!links, "port access: read, no link");
+        let members = before.record.members;
+        let mut blocks = Touched::of(shape, access.cell(), access.length()).blocks();
+        let closed = blocks.any(|block| module::tagged(before.image[TAGS + block], members));
+        reached.note_if(closed, "port access: read of a member's block");
+        if let Some(tags) = access.two_tags(shape, &before.image) {
+            let others = two_other_writers(tags, shape);
+            reached.note("port access: straddling read");
+            reached.note_if(
+                others,
+                "port access: straddling read of two other writers' blocks",
+            );
         }
     }
 
@@ -429,6 +427,10 @@ impl Check<'_> {
     ) {
         let reached = &mut *self.reached;
         let touched = Touched::of(shape, cell, n);
+        reached.note_if(
+            two_other_writers(tags, shape),
+            "port access: straddling write over two other writers' blocks",
+        );
         if answer.code == CUT {
             let differ = tags.map(|tag| usize::from(tag) != shape.boards);
             let between_tags = differ == [true; 2] && answer.stores == 1;
@@ -717,6 +719,12 @@ impl Check<'_> {
             }
         }
     }
+}
+
+/// Whether the tags name two boards, neither of which is P - 1.
+fn two_other_writers([first, last]: [u8; 2], shape: &Shape) -> bool {
+    let another = |tag| tag != 0 && usize::from(tag) != shape.boards;
+    first != last && another(first) && another(last)
 }
 
 /// An access over a border: whether a tag is above P or a member's, of the

@@ -220,6 +220,34 @@ fn wrong_group_after_an_overwrite() {
     fails(&format!("{short} X,1"), "group", spoilt(0x0002));
 }
 
+#[test]
+fn wrong_group_after_a_straddling_access() {
+    let two = "F,4,4,3,1 W,0,0,01020304 W,1,4,11121314";
+    for (access, end, group) in [
+        ("R,2,2,4", "X,0", 0x0001),
+        ("R,2,2,4", "X,1", 0x0002),
+        ("R,2,2,4", "C,2,AA", 0x0005),
+        ("W,2,2,21222324", "X,0", 0x0005),
+        ("W,2,2,21222324", "X,1", 0x0002),
+        ("W,2,2,21222324 R,3,0,1", "X,2", 0x0007),
+    ] {
+        fails(&format!("{two} {access} {end}"), "group", |_, played, _| {
+            played.answer.group = group;
+        });
+    }
+}
+
+#[test]
+fn byte_left_by_a_cut_straddling_write() {
+    // Cells 3 and 4, on either side of the border; 15 bytes come before them.
+    let cut = "F,2,4,3,1 W,0,2,01020304 C,0,AA Z,5 W,1,2,11121314";
+    for (cell, byte) in [(3, 0x12), (4, 0x13)] {
+        fails(cut, &format!("cell {cell}"), |player, _, _| {
+            player.image[15 + cell] = byte;
+        });
+    }
+}
+
 /// The ledger by itself, in blocks of four: who is rolled back after board 1
 /// wrote over board 0's block.
 #[test]

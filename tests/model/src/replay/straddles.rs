@@ -26,6 +26,18 @@ fn write_and_read(s: &mut Script, cell: usize, n: usize) {
     ));
 }
 
+/// Accesses that begin one cell before the borders after so many blocks, or
+/// S - 1 cells before them.
+fn about_borders(s: &mut Script, size: usize, blocks: [usize; 2]) {
+    for border in blocks.map(|blocks| blocks * size) {
+        for cell in [border - 1, border - size + 1] {
+            for n in [2, size - 1, size, size + 1] {
+                write_and_read(s, cell, n);
+            }
+        }
+    }
+}
+
 fn places(add: Add) {
     add(
         "straddle_each_place_s2_s4",
@@ -41,17 +53,16 @@ fn places(add: Add) {
     );
     add(
         "straddle_each_size",
-        "S from 8 to 64: one cell before each border and S - 1 before it, n about 2 and S",
+        "S from 8 to 64: one cell before each border and S - 1 before it, n about 2 and S; largest shapes",
         &|s| {
             for size in [8, 16, 32, 64] {
                 s.line(format!("F,2,{size},3,0"));
-                for border in [size, 2 * size] {
-                    for cell in [border - 1, border - size + 1] {
-                        for n in [2, size - 1, size, size + 1] {
-                            write_and_read(s, cell, n);
-                        }
-                    }
-                }
+                about_borders(s, size, [1, 2]);
+            }
+            // The last border, and the end.
+            for (size, blocks) in [(16, 1024), (64, 256)] {
+                s.line(format!("F,16,{size},{blocks},64"));
+                about_borders(s, size, [blocks - 1, blocks]);
             }
         },
     );

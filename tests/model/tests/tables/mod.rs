@@ -1,4 +1,4 @@
-//! Tables written by hand.
+//! Tables written by hand; not every file of tests has both kinds.
 #![allow(dead_code)]
 use model::{cases, check, player};
 
