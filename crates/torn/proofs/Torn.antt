@@ -10,11 +10,11 @@ use lib.ListN.{length}
 use native.Mathlib.Omega.{arith}
 use borrow.Author.Tests.{ltb-true, ltb-false}
 use Rattle.protocol.specs.Image.{Current, Recovery, cells, size, view}
-use Rattle.protocol.specs.Calls.{Request, Write, Power-up, Outcome}
+use Rattle.protocol.specs.Calls.{Write, Power-up, Outcome}
 use Rattle.protocol.specs.Ledger.{Verdict, refused, done, cut, undone, Ledger, cleared, all-undone}
 use Rattle.protocol.specs.Ledger.{commit-effect, effect, update}
 use Rattle.protocol.specs.Claim.{verdict, System, waits, answer, next, formatted, later}
-use Rattle.protocol.specs.Demand1.{Proper, refusing, storing, ends-as}
+use Rattle.protocol.specs.Demand1.{Proper, refusing, storing}
 use Rattle.protocol.specs.declared.Shape.{Shape}
 use Rattle.protocol.specs.declared.Requester.{Requester}
 use Rattle.volatile.specs.declared.Record.{Record}
@@ -22,11 +22,11 @@ use Rattle.boards.proofs.Basics.{decide, clash}
 use Rattle.protocol.proofs.Outcomes.{done-status}
 use Rattle.protocol.proofs.Bridge.{view-at}
 use Rattle.protocol.proofs.Marks.{marks, live, marks-settled}
-use Rattle.protocol.proofs.Agreement.{On, kept-cell, undone-cell, live-undone}
+use Rattle.protocol.proofs.Agreement.{kept-cell, undone-cell, live-undone}
 use Rattle.protocol.proofs.Invariant.{Invariant, up, down, step}
 use Rattle.protocol.proofs.Demand1.{demand-1}
 use Rattle.protocol.proofs.Demand3.{invariant-at, reached, write-taken}
-use Rattle.torn.specs.Torn.{Rolled-back, power-ups, Recovers, Undone, Torn-write-undone}
+use Rattle.torn.specs.Torn.{power-ups, Recovers, Torn-write-undone}
 
 -- ---- an allowance below the number of stores
 

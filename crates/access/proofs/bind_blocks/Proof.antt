@@ -1,5 +1,5 @@
 -- `bind_blocks` meets its contract: the boards bound in the first block, and in the last if that is another.
-use mathlib.Core.Path.{_≡_, _∙_, ap}
+use mathlib.Core.Path.{_∙_, ap}
 use native.Mathlib.Omega.{arith}
 use borrow.Author.Tests.{eq-eqb, ne-eqb}
 use Rattle.protocol.specs.Accesses.{bind-tag}
