@@ -136,7 +136,7 @@ fn put_last_tag(image: &mut [u8], p: Place, k: Budget) -> Budget
     ensures { λ r. ⌜ Makes (last-tag-store p) k (now (image .entry)) r (now (image .exit)) ⌝ }
 {
     let last = p.last;
-    if p.first.number == last.number {
+    if last.number == p.first.number {
         return k;
     }
     put_tag(image, last, p.board + 1, k)
@@ -150,12 +150,13 @@ fn put_bytes(image: &mut [u8], p: Place, bytes: &[u8], k: Budget) -> Budget
         (now (image .entry)) r (now (image .exit)) ⌝ }
 {
     let first = p.first;
-    let one = put_tag(image, first, p.board + 1, k);
-    let both = put_last_tag(image, p, one);
-    put_all(image, p.at, bytes, both)
+    let after_first = put_tag(image, first, p.board + 1, k);
+    let after_tags = put_last_tag(image, p, after_first);
+    put_all(image, p.at, bytes, after_tags)
 }
 
-// How a write of n bytes binds in each of its blocks. It overwrites a block whole only if it touches no other.
+// How a write of n bytes binds in each of its blocks: with at most S bytes it overwrites a block whole only if it touches
+// no other.
 fn binding_of(p: Place, n: usize) -> Binding
     ensures { λ r. ⌜ r ≡ binding-of p n ⌝ }
 {

@@ -37,8 +37,8 @@ abbrev pub admission-says : Admission → ℕ ⊎ Place
 admission-says (Refused n) = inl n
 admission-says (Taken p) = inr p
 
--- What an access of n cells from a on knows that passed its tests: what every board's call does; its board; its range,
--- and that it fits the room for its bytes; its place; that both tags are in order.
+-- What an access of n cells from a on knows that passed its tests: what every board's call does; its range, and that it
+-- fits the room for its bytes; its place, which has its board; that both tags are in order.
 pub record Placed (image : List ℕ) (r : Record) (who : Requester) (a n room : ℕ) (p : Place) : Type 0 where
   pub entry : Entry-passed image r (board-of (shape-of image) who) (shape-of image)
   pub range : bad-range (shape-of image) a n ≡ false

@@ -21,11 +21,12 @@ use Rattle.boards.proofs.Groups.{link-new, link-old, link-cases, links-ext}
 use Rattle.protocol.proofs.Accesses.{div-inside, whole-bounds, bounds-whole}
 use Rattle.protocol.proofs.Bridge.{view-at}
 use Rattle.protocol.proofs.Safety.{block-below}
+use Rattle.protocol.proofs.Outcomes.{not-done}
 use Rattle.protocol.proofs.Plans.{Ranged}
 use Rattle.protocol.proofs.Agreement.{On}
 use Rattle.protocol.proofs.Invariant as Invariant
 use Rattle.protocol.proofs.Invariant.{Invariant}
-use Rattle.protocol.proofs.Demand3.{invariant-at, write-taken}
+use Rattle.protocol.proofs.Demand3.{invariant-at, write-agrees}
 use Rattle.overwrites.specs.Overwrites.{Overwrite, Inside, Rolls-back, Faults-after-overwrite, Single-cells}
 
 -- ---- the links that a done write leaves
@@ -52,7 +53,7 @@ module _ {s : Shape} {w : System} (inv : Invariant s w) {who : Requester} {j b a
     after = next s w (Write who a bytes) k
 
     taken : On s (view s (w .image)) (w .state) (w .ledger) × Ranged s a n
-    taken = write-taken w who a bytes k (o .outcome) inv
+    taken = write-agrees w who a bytes k (λ e. not-done e (o .outcome)) inv
 
     below : b < s .blocks
     below =
@@ -130,7 +131,7 @@ faults-after-overwrite s image r m v calls who j b a bytes k o inside =
 
 pub single-cells : Single-cells
 single-cells s image r m v calls who j a bytes k one o =
-    let range = write-taken _ who a bytes k (o .outcome) (invariant-at s image r m v calls) .1 in
+    let range = write-agrees _ who a bytes k (λ e. not-done e (o .outcome)) (invariant-at s image r m v calls) .1 in
     let cell : a * s .size ≡ a = rw one (omega arith) in
     let inside : Inside s a a (length bytes) = (omega (arith, cell), omega (arith, cell, one, range)) in
     faults-after-overwrite s image r m v calls who j a a bytes k o inside .0 (omega (arith, one, range))

@@ -3,6 +3,7 @@ use Prim.Native.Nat.{ℕ, _+_, _*_, _<_, suc}
 use mathlib.Core.Path.{_≡_, refl, sym, _∙_, ap, subst}
 use mathlib.Core.Bool.{false, not}
 use mathlib.Core.List.{List, [], _∷_}
+use mathlib.Core.Logic.{_≢_}
 use lib.Dec.{eqb}
 use lib.ListN.{length, length-replicate, getD-replicate}
 use lib.Seq.{ext-getD}
@@ -15,7 +16,7 @@ use Rattle.protocol.specs.Image.{size, shape-of}
 use Rattle.protocol.specs.Accesses.{board-of}
 use Rattle.volatile.specs.Volatile.{closed, fresh}
 use Rattle.protocol.specs.Calls.{format, Write, first, refusals}
-use Rattle.protocol.specs.Ledger.{done, blank, writer}
+use Rattle.protocol.specs.Ledger.{refused, done, blank, writer}
 use Rattle.protocol.specs.Claim.{verdict, System, Call, answer, next, formatted, Holds}
 use Rattle.protocol.specs.Claim.{Faithful, end, and-then, Demand-3, Format-done, later}
 use Rattle.protocol.specs.declared.Shape.{Shape}
@@ -35,7 +36,7 @@ use Rattle.protocol.proofs.Copies.{current}
 use Rattle.protocol.proofs.Agreement.{On, nobody}
 use Rattle.protocol.proofs.Plans.{Ranged}
 use Rattle.protocol.proofs.Invariant.{Invariant, up, down, step, write-ok, off-refuses}
-use Rattle.protocol.proofs.Order.{done-taken, Ready, no-state-refusal, next-ready}
+use Rattle.protocol.proofs.Order.{not-turned-down, Ready, no-state-refusal, next-ready}
 use Rattle.protocol.specs.Dependences.{last-by}
 use Rattle.protocol.proofs.Dependences.{names-eqb, writer-last}
 
@@ -146,18 +147,18 @@ pub invariant-at : (s : Shape) (image : List ℕ) (r : Record) (k : ℕ) → ver
     → (calls : List Call) → Invariant s (later s (formatted s image r k) calls)
 invariant-at s image r k v calls = reached (formatted s image r k) calls (formatted-on s image r k v)
 
--- where a write is done, image, record and ledger agree, and its range is in order
-pub write-taken : {s : Shape} (w : System) (who : Requester) (a : ℕ) (bytes : List ℕ) (k : ℕ)
-    → verdict (answer w (Write who a bytes) k) ≡ done → Invariant s w
+-- where a write is not refused, image, record and ledger agree, and its range is in order
+pub write-agrees : {s : Shape} (w : System) (who : Requester) (a : ℕ) (bytes : List ℕ) (k : ℕ)
+    → verdict (answer w (Write who a bytes) k) ≢ refused → Invariant s w
     → On s (view s (w .image)) (w .state) (w .ledger) × Ranged s a (length bytes)
 unfolding answer refusals
-write-taken {s} w who a bytes k v = go
+write-agrees {s} w who a bytes k v = go
   where
     passed : shape-of (w .image) ≡ s
         → first (refusals (w .image) s (view s (w .image)) (w .state) (Write who a bytes)) ≡ 0
     passed same =
         subst (λ t. first (refusals (w .image) t (view t (w .image)) (w .state) (Write who a bytes)) ≡ 0) same
-        (done-taken (w .image) (w .state) (Write who a bytes) k v)
+        (not-turned-down (w .image) (w .state) (Write who a bytes) k v)
 
     go : Invariant s w → On s (view s (w .image)) (w .state) (w .ledger) × Ranged s a (length bytes)
     go (up h q on) = (on, write-ok h q on who a bytes (passed (h .shape)) .1)

@@ -21,4 +21,5 @@ pub mod Invariant
 pub mod Order
 pub mod Demand3
 pub mod Transactions
+pub mod Taken
 pub mod Port

@@ -378,15 +378,19 @@ module _ (image : List ℕ) (r : Record) (small : r .commit .acknowledged < 2 ^ 
       let few : m Decision 0 ≤ 1 = omega (arith, view-decision (sound .0), sound .1) in
       power-keeps s m r (limits s (sound .0 .allowed-shape)) few
 
--- a done call was not refused
-pub done-taken : (image : List ℕ) (r : Record) (request : Request) (k : ℕ) → verdict (perform image r request k) ≡ done
-    → refusal-at image r request ≡ 0
-done-taken image r request k v =
+-- where a call is not answered refused, no test of it holds
+pub not-turned-down : (image : List ℕ) (r : Record) (request : Request) (k : ℕ)
+    → verdict (perform image r request k) ≢ refused → refusal-at image r request ≡ 0
+not-turned-down image r request k v =
     let n = refusal-at image r request in
     ⊎-elim
     (λ (e : eqb n 0 ≡ true). eqb-true n 0 e)
-    (λ (e : eqb n 0 ≡ false). not-done (refused-as image refl r request (eqb-false n 0 e) k) v)
+    (λ (e : eqb n 0 ≡ false). absurd (v (refused-as image refl r request (eqb-false n 0 e) k)))
     (decide (eqb n 0))
+
+pub done-taken : (image : List ℕ) (r : Record) (request : Request) (k : ℕ) → verdict (perform image r request k) ≡ done
+    → refusal-at image r request ≡ 0
+done-taken image r request k v = not-turned-down image r request k (λ e. not-done e v)
 
 pub order-kept : Order-kept
 unfolding bad-tags

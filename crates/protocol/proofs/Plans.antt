@@ -8,7 +8,7 @@ use mathlib.Core.Logic.{⊎-elim}
 use lib.Dec.{eqb, ltb, leb}
 use lib.ListN.{length, take}
 use native.Mathlib.Omega.{arith}
-use borrow.Author.Tests.{eqb-false, ne-eqb, ltb-false, leb-true, leb-false}
+use borrow.Author.Tests.{eq-eqb, eqb-true, eqb-false, ne-eqb, ltb-true, ltb-false, lt-ltb, le-ltb, leb-true, leb-false}
 use Rattle.boards.specs.Lists.{anyOf}
 use Rattle.boards.specs.Boards.{tagged-in, tagged}
 use Rattle.protocol.specs.Image.{Decision, Group, Tags, Current, Recovery, Tentative, Memory, Put, put, rank}
@@ -18,7 +18,7 @@ use Rattle.protocol.specs.Calls.{bad-range, stored-group, placing, taggi
 use Rattle.protocol.specs.Calls.{recovering, decides, acknowledging, plan, refusals}
 use Rattle.protocol.specs.Calls.{Request, Read, Write, Start, Acknowledge, Fault, Power-up, refusal-at}
 use Rattle.protocol.specs.declared.Shape.{Shape}
-use Rattle.boards.proofs.Basics.{decide, or-false, All, none, also, all-append, all-cond, all-map, anyOf-false}
+use Rattle.boards.proofs.Basics.{decide, clash, All, none, also, all-append, all-cond, all-map, anyOf-false}
 use Rattle.boards.proofs.Basics.{or-right, all-take, take-append, false-and, row-fits}
 use Rattle.volatile.specs.Volatile.{commit-of, acknowledge}
 use Rattle.volatile.specs.declared.Record.{Record}
@@ -38,17 +38,42 @@ pub record Ranged (s : Shape) (a n : ℕ) : Type 0 where
   pub few : n ≤ s .size
   pub within : a + n ≤ cells s
 
-pub ranged : (s : Shape) (a n : ℕ) → bad-range s a n ≡ false → Ranged s a n
-unfolding bad-range
-ranged s a n e =
-    let one = or-false (eqb n 0) (ltb (s .size) n || ltb (cells s) (a + n)) e in
-    let two = or-false (ltb (s .size) n) (ltb (cells s) (a + n)) (one .1) in
-    let positive = eqb-false n 0 (one .0) in
-    record {
-      some = omega arith;
-      few = ltb-false (s .size) n (two .0);
-      within = ltb-false (cells s) (a + n) (two .1);
-    }
+-- 2 holds for each of its reasons, and for no other
+module _ (s : Shape) (a n : ℕ) where
+  pub range-none : n ≡ 0 → bad-range s a n ≡ true
+  unfolding bad-range
+  range-none e = rw (eq-eqb n 0 e)
+
+  pub range-long : s .size < n → bad-range s a n ≡ true
+  unfolding bad-range
+  range-long l = rw (lt-ltb (s .size) n l) (or-right (eqb n 0) refl)
+
+  pub range-past : cells s < a + n → bad-range s a n ≡ true
+  unfolding bad-range
+  range-past l = rw (lt-ltb (cells s) (a + n) l) (or-right (eqb n 0) (or-right (ltb (s .size) n) refl))
+
+  pub in-range : Ranged s a n → bad-range s a n ≡ false
+  unfolding bad-range
+  in-range r =
+      rw (
+        ne-eqb n 0 (λ e. omega (arith, e, r .some)),
+        le-ltb (s .size) n (r .few),
+        le-ltb (cells s) (a + n) (r .within),
+      )
+
+  pub ranged : bad-range s a n ≡ false → Ranged s a n
+  ranged e =
+      record {
+        some = ⊎-elim (λ (z : eqb n 0 ≡ true). clash (range-none (eqb-true n 0 z)) e)
+            (λ (z : eqb n 0 ≡ false). let positive = eqb-false n 0 z in omega arith)
+            (decide (eqb n 0));
+        few = ⊎-elim (λ (l : ltb (s .size) n ≡ true). clash (range-long (ltb-true (s .size) n l)) e)
+            (λ (l : ltb (s .size) n ≡ false). ltb-false (s .size) n l)
+            (decide (ltb (s .size) n));
+        within = ⊎-elim (λ (l : ltb (cells s) (a + n) ≡ true). clash (range-past (ltb-true (cells s) (a + n) l)) e)
+            (λ (l : ltb (cells s) (a + n) ≡ false). ltb-false (cells s) (a + n) l)
+            (decide (ltb (cells s) (a + n)));
+      }
 
 pub touched-below : (s : Shape) (a n : ℕ) → 0 < s .size → Ranged s a n → All (λ b. b < s .blocks) (touched s a n)
 unfolding touched
@@ -162,7 +187,8 @@ module _ (image : List ℕ) (r : Record) where
       let n = length bytes in
       let r = ranged shape a n (write-passed shape memory r who a n (b .1) .range) in
       let blocks = touched-below shape a n (limits shape (b .0 .sound .allowed-shape) .some-size) r in
-      let tags = inside-valid (tagging-inside shape memory i (touched shape a n) blocks) in
+      let tags : (bs : List ℕ) → All (λ b. b < shape .blocks) bs → All (Valid shape) (tagging memory i bs) =
+      λ bs h. inside-valid (tagging-inside shape memory i bs h) in
       let cells = inside-valid (placing-inside shape Current a bytes (omega arith) (r .within)) in
       -- in whichever order, and however many of them
       (b .0 .sound, search (all-append, all-take))

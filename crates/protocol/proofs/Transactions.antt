@@ -172,7 +172,7 @@ transactions-whole s w calls i a b test p q =
     together-fate (later-together s w calls (begun-together (w .ledger .notes) i a b p q)) test
 
 -- what holds at a later point, by demand 3
-holds-later : {s : Shape} (w : System) (calls more : List Call) → Faithful s w (calls ++ more)
+pub holds-later : {s : Shape} (w : System) (calls more : List Call) → Faithful s w (calls ++ more)
     → Holds s (later s (later s w calls) more)
 unfolding later
 holds-later w [] [] (end h) = h

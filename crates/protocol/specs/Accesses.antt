@@ -1,5 +1,5 @@
 -- What calls and ledger share of an access: its board, the blocks that it touches, and how it binds boards
--- (document 01, "Accesses"; document 02, Req 01 and 03).
+-- (document 01, "Accesses"; document 02, Req 01, 03 and 06).
 use Prim.Native.Nat.{ℕ, zero, suc, _+_, _-_, _*_, _/_}
 use mathlib.Core.Bool.{Bool, _&&_, cond}
 use mathlib.Core.List.{List, [], _∷_}
@@ -15,7 +15,7 @@ unfoldable pub board-of : Shape → Requester → ℕ
 board-of s (Board i) = i
 board-of s Port = s .boards - 1
 
--- the blocks that n cells from a on touch, if n is not 0: the first, and the last if it is another
+-- the blocks that 1 to S cells from a on touch: the first, and the last if it is another
 unfoldable pub touched : Shape → ℕ → ℕ → List ℕ
 touched s a n =
     let first = a / s .size in

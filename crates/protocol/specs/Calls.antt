@@ -48,7 +48,7 @@ unfoldable pub first : List Test → ℕ
 first [] = 0
 first (t ∷ ts) = cond (t .holds) (t .number) (first ts)
 
--- n is 0 or above S, or the access passes the last cell (it may go on into the next block: document 02, Req 06)
+-- n is 0 or above S, or the access passes the last cell. It may go on into the next block (document 02, Req 06).
 unfoldable pub bad-range : Shape → ℕ → ℕ → Bool
 bad-range s a n = eqb n 0 || (ltb (s .size) n || ltb (cells s) (a + n))
 
@@ -132,7 +132,7 @@ unfoldable pub placing : Area → ℕ → List ℕ → List Put
 placing area i [] = []
 placing area i (b ∷ bs) = put area i b ∷ placing area (suc i) bs
 
--- the tags of the touched blocks that differ from the writer's
+-- the tags of the touched blocks that differ from the writer's, first block first, judged by the memory at entry
 unfoldable pub tagging : Memory → ℕ → List ℕ → List Put
 tagging m i [] = []
 tagging m i (b ∷ bs) = cond (eqb (m Tags b) (suc i)) [] (put Tags b (suc i) ∷ []) ++ tagging m i bs

@@ -18,7 +18,8 @@ use Rattle.protocol.specs.Ledger.{members-of, started}
 use Rattle.protocol.specs.Ledger.{decides-now, update}
 use Rattle.protocol.specs.Dependences.{last-by, depends-by-notes}
 use Rattle.protocol.specs.declared.Shape.{Shape}
-use Rattle.volatile.specs.Volatile.{depends}
+use Rattle.protocol.specs.declared.Requester.the-variants.{Board}
+use Rattle.volatile.specs.Volatile.{depends, engaged}
 use Rattle.volatile.specs.declared.Record.{Record}
 
 -- refused, done or cut, read off the status
@@ -144,12 +145,32 @@ Format-done =
     (s : Shape) (image : List ℕ) (r : Record) (k : ℕ) → allowed s ≡ true → length image ≡ total s → total s + 1 ≤ k
     → verdict (format s image r k) ≡ done
 
--- ---- transactions
-
 -- the system after more calls
 unfoldable pub later : Shape → System → List Call → System
 later s w [] = w
 later s w (c ∷ cs) = later s (next s w (c .request) (c .k)) cs
+
+-- ---- accesses
+
+-- 1 to S cells from a on that do not pass the last one; it is no matter in which blocks they lie
+abbrev pub In-range : Shape → ℕ → ℕ → Type 0
+In-range s a n = (0 < n) × (n ≤ s .size) × (a + n ≤ cells s)
+
+-- At every point of every list where no cut waits and no commit is open, each board's read of such cells is done, if it
+-- fits its buffer, and no write of them is refused.
+abbrev pub Accesses-taken : Type 0
+Accesses-taken =
+    (s : Shape) (image : List ℕ) (r : Record) (m : ℕ) → verdict (format s image r m) ≡ done
+    → (calls : List Call) (i a : ℕ)
+    → let w = later s (formatted s image r m) calls in
+    w .waiting ≡ false
+    → engaged (w .state) ≡ 0
+    → i < s .boards
+    → ((n room k : ℕ) → In-range s a n → n ≤ room → verdict (answer w (Read (Board i) a n room) k) ≡ done)
+    × ((bytes : List ℕ) (k : ℕ) → In-range s a (length bytes)
+    → verdict (answer w (Write (Board i) a bytes) k) ≢ refused)
+
+-- ---- transactions
 
 -- Document 01's transaction of board i at a point: its pending notes, which are those since it was last cleared, for a
 -- clearing leaves none of them pending.

@@ -1,5 +1,6 @@
--- The links between boards by the notes alone (document 01, "Accesses" and "The ledger"; document 02, Req 01). Calls
--- and ledger make, find and drop a link by other words; only notes, `is-pending` and `covers` are those of the ledger.
+-- The links between boards by the notes alone (document 01, "Accesses" and "The ledger"; document 02, Req 01 and 06).
+-- Calls and ledger make, find and drop a link by other words; only notes, `is-pending` and `covers` are those of the
+-- ledger.
 use Prim.Native.Nat.{ℕ, _+_, _*_, _/_}
 use mathlib.Core.Bool.{Bool, true, false, _&&_, _||_, not, cond}
 use mathlib.Core.List.{List, [], _∷_}
@@ -39,8 +40,8 @@ came-upon binds s (n ∷ ns) i j =
     (is-pending (n .fate) && (eqb (n .board) i && in-blocks s n (λ b. binds n b && last-by s ns j b)))
     || came-upon binds s ns i j
 
--- Board i depends on another board j: a still pending access of i came upon a still pending write of j and did not
--- write the whole block, or a still pending write of j came upon a still pending write of i.
+-- Board i depends on another board j: a still pending access of i came upon a still pending write of j in a block that
+-- it did not write whole, or a still pending write of j came upon a still pending write of i.
 unfoldable pub depends-by-notes : Shape → List Note → ℕ → ℕ → Bool
 depends-by-notes s notes i j =
     not (eqb i j)

@@ -2,51 +2,23 @@
 -- that is done leaves that.
 use Prim.Native.Nat.{ℕ, _<_}
 use mathlib.Core.Path.{_≡_, refl, sym, _∙_, ap}
-use mathlib.Core.Bool.{true, false}
+use mathlib.Core.Bool.{true}
 use mathlib.Core.List.{List, [], _∷_}
-use mathlib.Core.Logic.{_≢_, ⊎-elim}
-use lib.Dec.{ltb}
-use lib.ListN.{length}
-use native.Mathlib.Omega.{arith}
-use borrow.Author.Tests.{ltb-true, ltb-false}
 use Rattle.protocol.specs.Image.{Current, Recovery, cells, size, view}
-use Rattle.protocol.specs.Calls.{Write, Power-up, Outcome}
+use Rattle.protocol.specs.Calls.{Write, Power-up}
 use Rattle.protocol.specs.Ledger.{Verdict, refused, done, cut, undone, Ledger, cleared, all-undone}
 use Rattle.protocol.specs.Ledger.{commit-effect, effect, update}
 use Rattle.protocol.specs.Claim.{verdict, System, waits, answer, next, formatted, later}
-use Rattle.protocol.specs.Demand1.{Proper, refusing, storing}
 use Rattle.protocol.specs.declared.Shape.{Shape}
 use Rattle.protocol.specs.declared.Requester.{Requester}
-use Rattle.volatile.specs.declared.Record.{Record}
-use Rattle.boards.proofs.Basics.{decide, clash}
-use Rattle.protocol.proofs.Outcomes.{done-status}
+use Rattle.boards.proofs.Basics.{clash}
+use Rattle.protocol.proofs.Outcomes.{not-cut}
 use Rattle.protocol.proofs.Bridge.{view-at}
 use Rattle.protocol.proofs.Marks.{marks, live, marks-settled}
 use Rattle.protocol.proofs.Agreement.{kept-cell, undone-cell, live-undone}
 use Rattle.protocol.proofs.Invariant.{Invariant, up, down, step}
-use Rattle.protocol.proofs.Demand1.{demand-1}
-use Rattle.protocol.proofs.Demand3.{invariant-at, reached, write-taken}
+use Rattle.protocol.proofs.Demand3.{invariant-at, reached, write-agrees}
 use Rattle.torn.specs.Torn.{power-ups, Recovers, Torn-write-undone}
-
--- ---- an allowance below the number of stores
-
-cut-below : {image : List ℕ} {r : Record} {call : ℕ → Outcome} (enough k : ℕ) → Proper image r call
-    → verdict (call enough) ≡ done → k < call enough .reply .answer .stores → verdict (call k) ≡ cut
-unfolding verdict
-cut-below {call = call} enough k (refusing n z y all) v l =
-    absurd (z (sym (ap (λ o. o .reply .answer .status) (all enough)) ∙ done-status (call enough) v))
-cut-below {call = call} enough k (storing stores group next bytes inside short full) v l =
-    ⊎-elim
-    (λ (e : ltb enough (length stores) ≡ true).
-    let status = ap (λ o. o .reply .answer .status) (short enough (ltb-true _ _ e)) in
-    absurd (zero-nine (sym (done-status (call enough) v) ∙ status)))
-    (λ (e : ltb enough (length stores) ≡ false).
-    let count = ap (λ o. o .reply .answer .stores) (full enough (ltb-false _ _ e)) in
-    rw (short k (omega (arith, l, count))))
-    (decide (ltb enough (length stores)))
-  where
-    zero-nine : _≡_ {A = ℕ} 0 9 → ⊥
-    zero-nine e = omega arith
 
 -- ---- what is kept of a cell
 
@@ -106,21 +78,13 @@ recovers {s} before w inv same ks k v a l =
       sym (view-at s image Recovery a l) ∙ banks .1 ∙ kept,
     )
 
-no-power-up : (who : Requester) (a : ℕ) (bytes : List ℕ) → Write who a bytes ≢ Power-up
-unfolding waits
-no-power-up who a bytes e = clash refl (ap (λ q. waits q done true) e)
-
 pub torn-write-undone : Torn-write-undone
-unfolding answer
-torn-write-undone s image r m v calls who a bytes enough k whole short =
+torn-write-undone s image r m v calls who a bytes k torn =
     let w = later s (formatted s image r m) calls in
     let write = Write who a bytes in
     let inv = invariant-at s image r m v calls in
-    let on = write-taken w who a bytes enough whole inv .0 in
-    let stopped = cut-below enough k (demand-1 .requests (w .image) (w .state) write (no-power-up who a bytes)) whole short in
-    record {
-      stopped = stopped;
-      after-it = recovers (w .image) (next s w write k) (step w inv write k .1)
-          (λ c l. on .recovery c l ∙ sym (torn-kept s c w who a bytes k stopped));
-      in-its-place = recovers (w .image) w inv (on .recovery);
-    }
+    let on = write-agrees w who a bytes k (λ e. not-cut e torn) inv .0 in (
+      recovers (w .image) (next s w write k) (step w inv write k .1)
+          (λ c l. on .recovery c l ∙ sym (torn-kept s c w who a bytes k torn)),
+      recovers (w .image) w inv (on .recovery),
+    )

@@ -1,20 +1,22 @@
 -- `bad_range` meets its contract: its tests in their order, with no sum that could wrap.
 use Prim.Native.Nat.{_≤_}
+use mathlib.Core.Path.{sym}
 use native.Mathlib.Omega.{arith}
 use Rattle.protocol.specs.Image.{cells}
 use Rattle.boards.proofs.Basics.{row-fits}
 use Rattle.layout.proofs.Laws.{bounded}
-use Rattle.admission.proofs.Range.{range-none, range-long, range-end}
+use Rattle.protocol.proofs.Plans.{range-none, range-long}
+use Rattle.admission.proofs.Range.{range-end}
 use Rattle.admission.proofs.bad_range.Statement.{statement}
 use Rattle.admission.proofs.bad_range.Tie as tie
 
 returns : tie.Need-returns
-returns c = range-none (c .before .args .s) (c .before .args .cell) (c .before .args .n) (c .if1 .taken)
+returns c = sym (range-none (c .before .args .s) (c .before .args .cell) (c .before .args .n) (c .if1 .taken))
 
 returns-2 : tie.Need-returns-2
 returns-2 c =
     let args = c .before .before .args in
-    range-long (args .s) (args .cell) (args .n) (c .before .if1 .left) (c .if2 .taken)
+    sym (range-long (args .s) (args .cell) (args .n) (c .if2 .taken))
 
 -- as few cells as a block has are no more than there are in all
 few : (c : tie.Else2) → c .before .before .args .n ≤ cells (c .before .before .args .s)
