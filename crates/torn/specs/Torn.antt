@@ -23,7 +23,7 @@ Rolled-back s before after =
 unfoldable pub power-ups : List ℕ → List Call
 power-ups ks = map (λ k. record { request = Power-up; k = k }) ks
 
--- a power-up that is done, the first after w or after others, rolls every cell back to an image
+-- a power-up that is done, the first after w or after others: every cell is rolled back to the image before
 abbrev pub Recovers : Shape → List ℕ → System → Type 0
 Recovers s before w =
     (ks : List ℕ) (k : ℕ)
