@@ -97,7 +97,7 @@ fn shape_of(image: &[u8]) -> Shape
     }
 }
 
-// The block of a cell. Byte 5 holds the power of two that a block's size is, so a shift divides by it.
+// The block of a cell. S is 2 to the power that byte 5 holds, so a shift by that byte divides by S.
 pub fn block_of(image: &[u8], cell: usize) -> usize
     requires { ⌜ (decision-at ≤ length (now image)) × (byte (now image) 5 ≤ 6) ⌝ }
     ensures { λ r. ⌜ r ≡ cell / shape-of (now (image .entry)) .size ⌝ }

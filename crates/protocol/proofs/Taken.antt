@@ -1,5 +1,5 @@
--- Accesses that are in range are taken: of their tests only those of the state are left, and by demand 3 these do not
--- hold.
+-- Accesses that are in range are taken: while no commit is open, of their tests only 11 and 12 are left, and by demand
+-- 3 these do not hold.
 use Prim.Native.Nat.{ℕ, zero, suc, _<_, _≤_}
 use mathlib.Core.Path.{_≡_, refl, sym, _∙_, ap, subst}
 use mathlib.Core.Bool.{Bool, true, false, _||_, not}

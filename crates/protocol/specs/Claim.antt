@@ -152,7 +152,7 @@ later s w (c ∷ cs) = later s (next s w (c .request) (c .k)) cs
 
 -- ---- accesses
 
--- 1 to S cells from a on that do not pass the last one; it is no matter in which blocks they lie
+-- 1 to S cells from a on that do not pass the last one, in whichever blocks they lie
 abbrev pub In-range : Shape → ℕ → ℕ → Type 0
 In-range s a n = (0 < n) × (n ≤ s .size) × (a + n ≤ cells s)
 

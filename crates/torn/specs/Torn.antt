@@ -12,9 +12,9 @@ use Rattle.protocol.specs.Claim.{verdict, System, Call, answer, next, formatted
 use Rattle.protocol.specs.declared.Shape.{Shape}
 use Rattle.protocol.specs.declared.Requester.{Requester}
 
--- in the image after it both bytes of each cell, current and recovery, are the cell's recovery byte in the image before
-abbrev pub Rolled-back : Shape → List ℕ → List ℕ → Type 0
-Rolled-back s before after =
+-- in the image `after` both bytes of each cell, current and recovery, are the cell's recovery byte in the image `before`
+abbrev pub Recovered : Shape → List ℕ → List ℕ → Type 0
+Recovered s before after =
     (a : ℕ) → a < cells s
     → let recovery = byte before (base s Area.Recovery + a) in
     (byte after (base s Area.Current + a) ≡ recovery) × (byte after (base s Area.Recovery + a) ≡ recovery)
@@ -23,12 +23,13 @@ Rolled-back s before after =
 unfoldable pub power-ups : List ℕ → List Call
 power-ups ks = map (λ k. record { request = Power-up; k = k }) ks
 
--- a power-up that is done, the first after w or after others: every cell is rolled back to the image before
+-- a power-up that is done, right after w or after other power-ups, leaves each cell its recovery byte of the image
+-- `before`
 abbrev pub Recovers : Shape → List ℕ → System → Type 0
 Recovers s before w =
     (ks : List ℕ) (k : ℕ)
     → let last = answer (later s w (power-ups ks)) Power-up k in
-    verdict last ≡ done → Rolled-back s before (last .image)
+    verdict last ≡ done → Recovered s before (last .image)
 
 -- A write with an allowance with which it is cut, and power-ups after it; the same power-ups in its place leave the same
 -- in each cell. A write that is not refused (`Accesses-taken`) and has L stores to make is cut by each allowance below
