@@ -71,8 +71,8 @@ within {image} {a = a} {n = n} k =
     }
 
 -- the links of an access that binds alike in each of its blocks
-bound-touched : {image : List ℕ} {r : Record} {who : Requester} {a n room : ℕ} {p : Place} → Placed image r who a n room p
-    → (how : ℕ → Binding) (kind : Binding) →
+bound-touched : {image : List ℕ} {r : Record} {who : Requester} {a n room : ℕ} {p : Place}
+    → Placed image r who a n room p → (how : ℕ → Binding) (kind : Binding) →
     let s = shape-of image in
     how (a / s .size) ≡ kind → how ((a + n - 1) / s .size) ≡ kind
     → bound kind p r ≡ bind-blocks depend how (view s image Tags) r (board-of s who) (touched s a n)

@@ -155,8 +155,8 @@ fn put_bytes(image: &mut [u8], p: Place, bytes: &[u8], k: Budget) -> Budget
     put_all(image, p.at, bytes, after_tags)
 }
 
-// How a write of n bytes binds in each of its blocks: with at most S bytes it overwrites a block whole only if it touches
-// no other.
+// How a write of n bytes binds in each of its blocks: with at most S bytes it overwrites a block whole only if it
+// touches no other.
 fn binding_of(p: Place, n: usize) -> Binding
     ensures { λ r. ⌜ r ≡ binding-of p n ⌝ }
 {

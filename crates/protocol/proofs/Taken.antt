@@ -122,7 +122,8 @@ module _ (image : List ℕ) (r : Record) (request : Request) (z : refusal-at ima
 read-done : (image : List ℕ) (r : Record) (i a n room k : ℕ) → refusal-at image r (Read (Board i) a n room) ≡ 0
     → verdict (perform image r (Read (Board i) a n room) k) ≡ done
 unfolding executed verdict plan
-read-done image r i a n room k z = ap verdict (taken image refl r (Read (Board i) a n room) z k) ∙ rw (le-ltb k 0 (omega arith))
+read-done image r i a n room k z =
+    ap verdict (taken image refl r (Read (Board i) a n room) z k) ∙ rw (le-ltb k 0 (omega arith))
 
 pub accesses-taken : Accesses-taken
 unfolding later answer
@@ -132,10 +133,13 @@ accesses-taken s image r m v calls i a q idle board =
     let ready = holds-later (formatted s image r m) calls [] (demand-3 s image r m v (calls ++ [])) .ready q in (
       λ n room k range fits.
           read-done (w .image) (w .state) i a n room k
-          (untested w (Read (Board i) a n room) k same (read-clear w same idle board (in-cells range) room fits) (ready _ k)),
+          (untested w (Read (Board i) a n room) k same (read-clear w same idle board (in-cells range) room fits)
+          (ready _ k)),
       λ bytes k range.
           not-refused (w .image) (w .state) (Write (Board i) a bytes)
-          (untested w (Write (Board i) a bytes) k same (write-clear w same idle board (in-cells range) bytes refl) (ready _ k)) k,
+          (untested w (Write (Board i) a bytes) k same (write-clear w same idle board (in-cells range) bytes refl)
+          (ready _ k))
+          k,
     )
   where
     in-cells : {n : ℕ} → In-range s a n → Ranged s a n

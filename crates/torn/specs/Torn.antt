@@ -1,6 +1,6 @@
--- A write that is cut, in one block or over the border of two (document 02, Req 06: "A cut between the two blocks' bytes
--- must still undo the lot"), at every point of every list of calls: once a power-up after it is done, each cell's bytes
--- are its recovery byte from before the write.
+-- A write that is cut, in one block or over the border of two (document 02, Req 06: "A cut between the two blocks'
+-- bytes must still undo the lot"), at every point of every list of calls: once a power-up after it is done, each cell's
+-- bytes are its recovery byte from before the write.
 use Prim.Native.Nat.{ℕ, _+_, _<_}
 use mathlib.Core.Path.{_≡_}
 use mathlib.Core.List.{List, map}
@@ -12,7 +12,8 @@ use Rattle.protocol.specs.Claim.{verdict, System, Call, answer, next, formatted
 use Rattle.protocol.specs.declared.Shape.{Shape}
 use Rattle.protocol.specs.declared.Requester.{Requester}
 
--- in the image `after` both bytes of each cell, current and recovery, are the cell's recovery byte in the image `before`
+-- in the image `after` both bytes of each cell, current and recovery, are the cell's recovery byte in the image
+-- `before`
 abbrev pub Recovered : Shape → List ℕ → List ℕ → Type 0
 Recovered s before after =
     (a : ℕ) → a < cells s
@@ -31,10 +32,10 @@ Recovers s before w =
     → let last = answer (later s w (power-ups ks)) Power-up k in
     verdict last ≡ done → Recovered s before (last .image)
 
--- A write with an allowance with which it is cut, and power-ups after it; the same power-ups in its place leave the same
--- in each cell. A write that is not refused (`Accesses-taken`) and has L stores to make is cut by each allowance below
--- L: between the tags, between the blocks' bytes, before the last one (`Demand-1`, which has L). No power-up is refused
--- (`Demand-3`), so one is done with a large enough allowance.
+-- A write with an allowance with which it is cut, and power-ups after it; the same power-ups in its place leave the
+-- same in each cell. A write that is not refused (`Accesses-taken`) and has L stores to make is cut by each allowance
+-- below L: between the tags, between the blocks' bytes, before the last one (`Demand-1`, which has L). No power-up is
+-- refused (`Demand-3`), so one is done with a large enough allowance.
 abbrev pub Torn-write-undone : Type 0
 Torn-write-undone =
     (s : Shape) (image : List ℕ) (r : Record) (m : ℕ) → verdict (format s image r m) ≡ done

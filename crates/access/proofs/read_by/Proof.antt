@@ -30,7 +30,9 @@ known : (c : tie.After-admission) →
 known c = if-admitted (c .before .before .admit .ensures) (c .admission .given .1)
 
 bind-blocks-requires : tie.Need-bind-blocks-requires
-bind-blocks-requires c κs = let place = within (known (c .before) .1) in (place .board, place .first-tag, place .last-tag)
+bind-blocks-requires c κs =
+    let place = within (known (c .before) .1) in
+    (place .board, place .first-tag, place .last-tag)
 
 fill-requires : tie.Need-fill-requires
 fill-requires c κs =

@@ -32,7 +32,9 @@ known : (c : tie.After-admission) →
 known c = if-admitted (c .before .before .admit-write .ensures) (c .admission .given .1)
 
 bind-blocks-requires : tie.Need-bind-blocks-requires
-bind-blocks-requires c κs = let place = within (known (c .before .before) .1) in (place .board, place .first-tag, place .last-tag)
+bind-blocks-requires c κs =
+    let place = within (known (c .before .before) .1) in
+    (place .board, place .first-tag, place .last-tag)
 
 put-bytes-requires : tie.Need-put-bytes-requires
 put-bytes-requires c κs =

@@ -130,7 +130,8 @@ returns-6 : tie.Need-returns-6
 returns-6 c =
     let low = c .before .before .before in
     let tag = low .before .before .before .locate .result .last .tag in
-    refused (second low ∙ first-held 11 _ (lt-ltb _ tag (omega (arith, c .if5 .taken, low .if4 .left)))) (λ z. omega arith)
+    refused (second low ∙ first-held 11 _ (lt-ltb _ tag (omega (arith, c .if5 .taken, low .if4 .left))))
+    (λ z. omega arith)
 
 -- all tests but 13 are passed: the answer of `has` decides, and the place is known
 last : (c : tie.After-has) →

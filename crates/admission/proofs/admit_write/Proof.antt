@@ -71,7 +71,9 @@ returns-3 c = refused (second (c .before) ∙ first-held 13 [] (c .if2 .taken)) 
 
 returns-4 : tie.Need-returns-4
 unfolding first
-returns-4 c = passed (second (c .before) ∙ first-passed 13 [] (c .if2 .left)) (rest (c .before .before .before .before .before .before) .1)
+returns-4 c =
+    let opened = c .before .before .before .before .before .before in
+    passed (second (c .before) ∙ first-passed 13 [] (c .if2 .left)) (rest opened .1)
 
 pub admit-write-spec : {M : Type 1} → statement M
 admit-write-spec =
