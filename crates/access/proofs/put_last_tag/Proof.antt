@@ -9,7 +9,9 @@ use Rattle.access.proofs.put_last_tag.Tie as tie
 
 returns : tie.Need-returns
 unfolding last-tag-store
-returns c = rw (eq-eqb _ _ (sym (c .if1 .taken))) (makes-none _ _)
+returns c =
+    let p = c .before .before .before .before .before .args .p in
+    rw (eq-eqb (p .first .number) (p .last .number) (omega (arith, c .if1 .taken))) (makes-none _ _)
 
 returns-2 : tie.Need-returns-2
 unfolding last-tag-store

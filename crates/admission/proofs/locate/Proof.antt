@@ -57,8 +57,9 @@ block-at-requires-2 c κs =
 add-at : tie.Need-add-at
 unfolding base
 add-at c =
-    let start = c .before .before .before .before .before .before in
-    omega (arith, known start .0, known start .1)
+    let found = c .before .before .before .before in
+    let start = found .before .before in
+    omega (arith, known start .0, known start .1, known start .2 .first, from found)
 
 returns : tie.Need-returns
 returns c =
