@@ -1,0 +1,245 @@
+-- Components by chains; the boards that may go next; the lowest of them.
+use Prim.Native.Nat.{ℕ, zero, suc, _+_, _^_, _≤_, _<_}
+use mathlib.Core.Path.{_≡_, refl, sym, _∙_, ap}
+use mathlib.Core.Bool.{Bool, true, false, _&&_, not, cond}
+use mathlib.Core.Logic.{_⊎_, inl, inr, ⊎-elim, _↔_, _≢_}
+use lib.Dec.{eqb}
+use native.Mathlib.Omega.{arith}
+use borrow.Author.Tests.{eq-eqb, eqb-true, eqb-false}
+use Rattle.boards.specs.Lists.{any}
+use Rattle.boards.specs.Boards.{has, setOf, Links, Chain, here, step, commit-group, fault-group}
+use Rattle.boards.specs.Rows.{minus}
+use Rattle.boards.proofs.Basics.{decide, clash, and-true, true-and, not-true, false-not, refute, test-ext}
+use Rattle.boards.proofs.Basics.{any-some, any-none}
+use Rattle.boards.proofs.Groups.{has-mask, has-below, has-ext, has-none, mask-below, count, larger-count, below-or}
+use Rattle.boards.proofs.Groups.{count-some}
+use Rattle.boards.proofs.Groups.{Bounded, Backward, chain-join, backward-chain, in-commit-group, in-fault-group}
+use Rattle.boards.proofs.Groups.{commit-group-self, commit-group-small}
+use Rattle.components.specs.Components.{common, component, ready, lowest}
+
+-- ---- sets
+
+-- the boards of a set that is made by a test
+pub set-has : (p : ℕ → Bool) (j : ℕ) → has (setOf p) j ≡ true → (j < 16) × (p j ≡ true)
+set-has p j h = let l = has-below 16 (setOf p) j (mask-below 16 p) h in (l, sym (has-mask 16 p j l) ∙ h)
+
+pub has-set : (p : ℕ → Bool) (j : ℕ) → j < 16 → p j ≡ true → has (setOf p) j ≡ true
+has-set p j l e = has-mask 16 p j l ∙ e
+
+-- of the boards that are left without others
+pub minus-has : (g h j : ℕ) → has (minus g h) j ≡ true → (has g j ≡ true) × (has h j ≡ false)
+minus-has g h j e =
+    let both = and-true (has g j) (not (has h j)) (set-has (λ j. has g j && not (has h j)) j e .1) in
+    (both .0, not-true (has h j) (both .1))
+
+pub has-minus : (g h j : ℕ) → g < 2 ^ 16 → has g j ≡ true → has h j ≡ false → has (minus g h) j ≡ true
+has-minus g h j small e f =
+    has-set (λ j. has g j && not (has h j)) j (has-below 16 g j small e) (true-and e (false-not f))
+
+-- fewer are left without a board that was there
+pub minus-fewer : (g h i : ℕ) → i < 16 → has g i ≡ true → has h i ≡ true
+    → count 16 (has (minus g h)) < count 16 (has g)
+minus-fewer g h i l e f =
+    let more = larger-count 16 (has (minus g h)) (has g) (λ j y. minus-has g h j y .0) in
+    ⊎-elim
+    (λ k. k)
+    (λ k. clash (more .1 k i l ∙ e) (refute (has (minus g h) i) (λ y. clash f (minus-has g h i y .1))))
+    (below-or (count 16 (has (minus g h))) (count 16 (has g)))
+
+-- a set that is not empty has a board
+pub has-some : (g : ℕ) → g < 2 ^ 16 → eqb g 0 ≡ false → (j : ℕ) × (j < 16) × (has g j ≡ true)
+has-some g small e =
+    ⊎-elim
+    (any-some 16 (has g))
+    (λ none. absurd (eqb-false g 0 e (has-none 16 g small (any-none 16 (has g) none))))
+    (decide (any 16 (has g)))
+
+-- ---- the lowest number
+
+pub lowest-holds : (n : ℕ) (p : ℕ → Bool) (i : ℕ) → i < n → p i ≡ true → (lowest n p < n) × (p (lowest n p) ≡ true)
+unfolding lowest
+lowest-holds zero p i l e = absurd (omega arith)
+lowest-holds (suc n) p i l e = go (lowest n (λ i. p (suc i))) (p 0) refl i l e (lowest-holds n (λ i. p (suc i)))
+  where
+    go : (later : ℕ) (b : Bool) → p 0 ≡ b → (i : ℕ) → i < suc n → p i ≡ true
+        → ((i : ℕ) → i < n → p (suc i) ≡ true → (later < n) × (p (suc later) ≡ true))
+        → (cond b 0 (suc later) < suc n) × (p (cond b 0 (suc later)) ≡ true)
+    go later true z i l e rest = (omega arith, z)
+    go later false z zero l e rest = clash e z
+    go later false z (suc i) l e rest = let r = rest i (omega arith) e in (omega (arith, r .0), r .1)
+
+pub lowest-least : (n : ℕ) (p : ℕ → Bool) (i : ℕ) → p i ≡ true → lowest n p ≤ i
+unfolding lowest
+lowest-least zero p i e = omega arith
+lowest-least (suc n) p i e = go (lowest n (λ i. p (suc i))) (p 0) refl i e (lowest-least n (λ i. p (suc i)))
+  where
+    go : (later : ℕ) (b : Bool) → p 0 ≡ b → (i : ℕ) → p i ≡ true → ((i : ℕ) → p (suc i) ≡ true → later ≤ i)
+        → cond b 0 (suc later) ≤ i
+    go later true z i e rest = omega arith
+    go later false z zero e rest = clash e z
+    go later false z (suc i) e rest = omega (arith, rest i e)
+
+-- ---- components and boards that may go next
+
+module _ {d : Links} (b : Bounded 16 d) where
+  module _ (i : ℕ) (l : i < 16) where
+    pub in-component : (j : ℕ) → (has (component d i) j ≡ true) ↔ (Chain d i j × Chain d j i)
+    unfolding component
+    in-component j =
+        let both : ℕ → Bool = λ j. has (commit-group d i) j && has (fault-group d i) j in (
+          λ h.
+              let s = and-true (has (commit-group d i) j) _ (set-has both j h .1) in
+              (in-commit-group b i l j .0 (s .0), in-fault-group b i l j .0 (s .1)),
+          λ c.
+              let reach = in-commit-group b i l j .1 (c .0) in
+              has-set both j (has-below 16 (commit-group d i) j (commit-group-small d i) reach)
+              (true-and reach (in-fault-group b i l j .1 (c .1))),
+        )
+
+    pub component-self : has (component d i) i ≡ true
+    component-self = in-component i .1 (here, here)
+
+  pub component-small : (i : ℕ) → component d i < 2 ^ 16
+  unfolding component
+  component-small i = mask-below 16 _
+
+  -- The boards left, of which each has its dependents with it.
+  module _ {left : ℕ} (small : left < 2 ^ 16) (back : Backward (has left) d) where
+    -- what it says that a board may go next: it is left, and every board left that it depends on depends on it
+    pub record Ready (i : ℕ) : Type 0 where
+      pub stays : has left i ≡ true
+      pub mutual-with : (j : ℕ) → Chain d i j → has left j ≡ true → Chain d j i
+
+    pub left-below : {i : ℕ} → has left i ≡ true → i < 16
+    left-below {i} e = has-below 16 left i small e
+
+    pub ready-says : (i : ℕ) → ready d left i ≡ true → Ready i
+    unfolding ready
+    ready-says i e =
+        let both = and-true (has left i) _ e in
+        let l = left-below (both .0) in
+        let same = eqb-true (common (commit-group d i) left) (component d i) (both .1) in
+        record {
+          stays = both .0;
+          mutual-with = λ j c y.
+              let reach = in-commit-group b i l j .1 c in
+              let inside = has-set (λ j. has (commit-group d i) j && has left j) j (left-below y) (true-and reach y) in
+              in-component i l j .0 (sym (ap (λ g. has g j) same) ∙ inside) .1;
+        }
+
+    pub says-ready : (i : ℕ) → Ready i → ready d left i ≡ true
+    unfolding ready
+    says-ready i r =
+        let l = left-below (r .stays) in
+        let inside : ℕ → Bool = λ j. has (commit-group d i) j && has left j in
+        true-and (r .stays)
+        (eq-eqb (common (commit-group d i) left) (component d i)
+        (has-ext 16 (common (commit-group d i) left) (component d i) (mask-below 16 inside) (component-small i)
+        (λ j k. test-ext _ _
+        (λ y.
+        let s = and-true (has (commit-group d i) j) _ (set-has inside j y .1) in
+        let c = in-commit-group b i l j .0 (s .0) in
+        in-component i l j .1 (c, r .mutual-with j c (s .1)))
+        (λ y.
+        let c = in-component i l j .0 y in
+        has-set inside j k (true-and (in-commit-group b i l j .1 (c .0)) (backward-chain back (c .1) (r .stays)))))))
+
+    -- Some board may go next, if any is left: a board does, or it depends on one left that does not depend on it, whose
+    -- commit group is smaller.
+    find : (n i : ℕ) → has left i ≡ true → count 16 (has (commit-group d i)) ≤ n → (j : ℕ) × Ready j
+    find zero i e few =
+        let l = left-below e in
+        absurd (omega (arith, count-some 16 (has (commit-group d i)) i l (commit-group-self d i l)))
+    find (suc n) i e few = go (decide (any 16 other)) (find n)
+      where
+        other : ℕ → Bool
+        other j = has left j && (has (commit-group d i) j && not (has (commit-group d j) i))
+
+        go : (any 16 other ≡ true) ⊎ (any 16 other ≡ false)
+            → ((i : ℕ) → has left i ≡ true → count 16 (has (commit-group d i)) ≤ n → (j : ℕ) × Ready j)
+            → (j : ℕ) × Ready j
+        go (inl some) smaller =
+            let l = left-below e in
+            let (j, k, o) = any-some 16 other some in
+            let s = and-true (has left j) _ o in
+            let t = and-true (has (commit-group d i) j) _ (s .1) in
+            let c = in-commit-group b i l j .0 (t .0) in
+            let more =
+            larger-count 16 (has (commit-group d j)) (has (commit-group d i))
+            (λ h y. in-commit-group b i l h .1 (chain-join c (in-commit-group b j k h .0 y))) in
+            let own = commit-group-self d i l in
+            let fewer =
+            ⊎-elim (λ q. q)
+            (λ q. clash (more .1 q i l ∙ own) (not-true (has (commit-group d j) i) (t .1)))
+            (below-or (count 16 (has (commit-group d j))) (count 16 (has (commit-group d i)))) in
+            smaller j (s .0) (omega (arith, fewer))
+        go (inr none) smaller =
+            let l = left-below e in (
+              i,
+              record {
+                stays = e;
+                mutual-with = λ j c y.
+                    let k = left-below y in
+                    let out = any-none 16 other none j k in
+                    in-commit-group b j k i .0
+                    (⊎-elim
+                    (λ h. h)
+                    (λ h. clash (true-and y (true-and (in-commit-group b i l j .1 c) (false-not h))) out)
+                    (decide (has (commit-group d j) i)));
+              },
+            )
+
+    -- the next board, if any is left
+    module _ (any-left : eqb left 0 ≡ false) where
+      abbrev pub next : ℕ
+      next = lowest 16 (ready d left)
+
+      next-holds : (next < 16) × (ready d left next ≡ true)
+      next-holds =
+          let (i, l, e) = has-some left small any-left in
+          let (j, r) = find (count 16 (has (commit-group d i))) i e (omega arith) in
+          lowest-holds 16 (ready d left) j (left-below (r .stays)) (says-ready j r)
+
+      pub next-below : next < 16
+      next-below = next-holds .0
+
+      pub next-ready : Ready next
+      next-ready = ready-says next (next-holds .1)
+
+      pub next-least : (i : ℕ) → Ready i → next ≤ i
+      next-least i r = lowest-least 16 (ready d left) i (says-ready i r)
+
+      -- its component, and the boards left without it
+      abbrev pub gone : ℕ
+      gone = component d next
+
+      abbrev pub rest : ℕ
+      rest = minus left gone
+
+      pub in-next : (j : ℕ) → (has gone j ≡ true) ↔ (Chain d next j × Chain d j next)
+      in-next = in-component next next-below
+
+      pub next-inside : (j : ℕ) → has gone j ≡ true → has left j ≡ true
+      next-inside j h = backward-chain back (in-next j .0 h .1) (next-ready .stays)
+
+      pub rest-small : rest < 2 ^ 16
+      rest-small = mask-below 16 _
+
+      pub rest-fewer : count 16 (has rest) < count 16 (has left)
+      rest-fewer = minus-fewer left gone next next-below (next-ready .stays) (in-next next .1 (here, here))
+
+      -- a board left that a board of the component depends on is in the component
+      pub next-closed : (a j : ℕ) → has gone a ≡ true → Chain d a j → has left j ≡ true → has gone j ≡ true
+      next-closed a j h c y =
+          let k = chain-join (in-next a .0 h .0) c in
+          in-next j .1 (k, next-ready .mutual-with j k y)
+
+      pub rest-back : Backward (has rest) d
+      rest-back =
+          record {
+            onto = λ x y h e.
+                let s = minus-has left gone y h in
+                let stays = back .onto x y (s .0) e in
+                has-minus left gone x small stays
+                (refute (has gone x) (λ g. clash (next-closed x y g (step e here) (s .0)) (s .1)));
+          }
