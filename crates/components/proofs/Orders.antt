@@ -18,7 +18,7 @@ use Rattle.boards.proofs.Groups.{Bounded, bounded-more, Backward, chain-join}
 use Rattle.volatile.specs.Volatile.{depends, bad-record}
 use Rattle.volatile.specs.declared.Record.{Record}
 use Rattle.volatile.proofs.Order.{orderly, rows-within}
-use Rattle.components.specs.Components.{component, order-from, all-boards, order}
+use Rattle.components.specs.Components.{component, ready, lowest, order-from, all-boards, order}
 use Rattle.components.specs.Claims.{at, Depends-before, Orders, Sixteen, Order-right}
 use Rattle.components.proofs.Ready.{minus-has, has-minus}
 use Rattle.components.proofs.Ready as next
@@ -254,7 +254,7 @@ module _ {d : Links} (b : Bounded 16 d) {left : ℕ} (small : left < 2 ^ 16) (ba
           ap₂ (λ c l. c ∷ l) (first-is b small back some o) (r .1 gs (rest-right b small back some o))
 
   -- nobody is left if there are none to be counted
-  none-counted : count 16 (has left) ≤ 0 → eqb left 0 ≡ true
+  pub none-counted : count 16 (has left) ≤ 0 → eqb left 0 ≡ true
   none-counted few = go (decide (eqb left 0))
     where
       go : (eqb left 0 ≡ true) ⊎ (eqb left 0 ≡ false) → eqb left 0 ≡ true
@@ -262,16 +262,30 @@ module _ {d : Links} (b : Bounded 16 d) {left : ℕ} (small : left < 2 ^ 16) (ba
       go (inr some) =
           let fewer = next.rest-fewer b small back some in absurd (omega arith)
 
+-- the definition by whether any are left
+module _ (d : Links) (left : ℕ) where
+  pub order-none : (n : ℕ) → eqb left 0 ≡ true → order-from d n left ≡ []
+  unfolding order-from
+  order-none zero z = refl
+  order-none (suc n) z = rw z
+
+  pub order-some : (n : ℕ) → eqb left 0 ≡ false
+      → order-from d (suc n) left
+      ≡ component d (lowest 16 (ready d left)) ∷ order-from d n (minus left (component d (lowest 16 (ready d left))))
+  unfolding order-from
+  order-some n some = rw some
+
 pub from-right : {d : Links} → Bounded 16 d → (n : ℕ) {left : ℕ} → left < 2 ^ 16 → Backward (has left) d
     → count 16 (has left) ≤ n → Only d left (order-from d n left)
-unfolding order-from
-from-right b zero small back few = empty-right-only b small back (none-counted b small back few)
+from-right {d} b zero {left} small back few =
+    let z = none-counted b small back few in
+    subst (Only d left) (sym (order-none d left 0 z)) (empty-right-only b small back z)
 from-right {d} b (suc n) {left} small back few =
     ⊎-elim
-    (λ (z : eqb left 0 ≡ true). rw z (empty-right-only b small back z))
+    (λ (z : eqb left 0 ≡ true). subst (Only d left) (sym (order-none d left (suc n) z)) (empty-right-only b small back z))
     (λ (some : eqb left 0 ≡ false).
     let less = next.rest-fewer b small back some in
-    rw some
+    subst (Only d left) (sym (order-some d left n some))
     (more-only b small back some _
     (from-right b n (next.rest-small b small back some) (next.rest-back b small back some) (omega arith))))
     (decide (eqb left 0))
@@ -280,18 +294,18 @@ from-right {d} b (suc n) {left} small back few =
 
 -- the boards below p, and dependences among them
 module _ {p : ℕ} (most : p ≤ 16) {d : Links} (b : Bounded p d) where
-  has-all : (j : ℕ) → has (all-boards p) j ≡ ltb j p
+  pub has-all : (j : ℕ) → has (all-boards p) j ≡ ltb j p
   has-all j =
       ⊎-elim
       (has-mask 16 (λ j. ltb j p) j)
       (λ l. has-beyond 16 (λ j. ltb j p) j l ∙ sym (le-ltb j p (omega arith)))
       (below-or j 16)
 
-  all-back : Backward (has (all-boards p)) d
+  pub all-back : Backward (has (all-boards p)) d
   all-back = record { onto = λ x y h e. has-all x ∙ lt-ltb x p (b .ends x y e .0) }
 
 -- there are p of them at most
-all-few : (p n : ℕ) → count n (λ j. ltb j p) ≤ p
+pub all-few : (p n : ℕ) → count n (λ j. ltb j p) ≤ p
 unfolding count
 all-few p zero = omega arith
 all-few p (suc n) =

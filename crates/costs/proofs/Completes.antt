@@ -66,12 +66,12 @@ module _ (p : ℕ → Bool) where
 -- ---- one call
 
 -- image and record in order
-record In-order (s : Shape) (image : List ℕ) (r : Record) : Type 0 where
-  ordered : in-order 0 image ≡ true
-  recorded : bad-record (s .boards) r ≡ false
-  small : r .commit .acknowledged < 2 ^ 16
+pub record In-order (s : Shape) (image : List ℕ) (r : Record) : Type 0 where
+  pub ordered : in-order 0 image ≡ true
+  pub recorded : bad-record (s .boards) r ≡ false
+  pub small : r .commit .acknowledged < 2 ^ 16
 
-done-leaves : {s : Shape} (image : List ℕ) (r : Record) (request : Request) (k : ℕ) → shape-of image ≡ s
+pub done-leaves : {s : Shape} (image : List ℕ) (r : Record) (request : Request) (k : ℕ) → shape-of image ≡ s
     → r .commit .acknowledged < 2 ^ 16 → perform image r request k .reply .answer .status ≡ 0
     → In-order s (perform image r request k .image) (perform image r request k .reply .next)
 unfolding verdict
@@ -101,10 +101,10 @@ module _ (s : Shape) (g : ℕ) (m₀ : Memory) (group : Grouped s g) (context : 
       sum : n * s .context + total-cost g run ≡ figure s g m₀
 
     -- boards that may acknowledge
-    abbrev May : Record → ℕ → Type 0
+    abbrev pub May : Record → ℕ → Type 0
     May r j = (j < s .boards) × (has g j ≡ true) × (has (r .commit .acknowledged) j ≡ false)
 
-    acknowledge-taken : {n : ℕ} (image : List ℕ) (r : Record) (j : ℕ) → Open s g m₀ image r n → In-order s image r
+    pub acknowledge-taken : {n : ℕ} (image : List ℕ) (r : Record) (j : ℕ) → Open s g m₀ image r n → In-order s image r
         → May r j → first (refusals image s (view s image) r (Acknowledge j (context j))) ≡ 0
     unfolding refusals entry-tests acknowledge-tests first engaged commit-of
     acknowledge-taken image r j w o (below, member, awaited) =
@@ -229,7 +229,7 @@ module _ (s : Shape) (g : ℕ) (m₀ : Memory) (group : Grouped s g) (context : 
 -- ---- the claim
 
 -- without an open commit nobody has acknowledged
-none-acknowledged : (p : ℕ) (r : Record) → bad-record p r ≡ false → engaged r ≡ 0 → r .commit .acknowledged ≡ 0
+pub none-acknowledged : (p : ℕ) (r : Record) → bad-record p r ≡ false → engaged r ≡ 0 → r .commit .acknowledged ≡ 0
 unfolding engaged bad-commit bad-closed
 none-acknowledged p r e free =
     let c = r .commit in

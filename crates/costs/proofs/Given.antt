@@ -14,7 +14,7 @@ use Rattle.boards.specs.Boards.{has, with-board, tagged-in}
 use Rattle.boards.proofs.Basics.{decide, true-and, or-true, or-right, true-or, test-ext, row-fits}
 use Rattle.boards.proofs.Groups.{below-or, count, larger-count, has-with, has-below, has-ext, mask-below}
 use Rattle.boards.proofs.Groups.{count-same, count-with}
-use Rattle.volatile.specs.Volatile.{engaged, commit-of, acknowledge}
+use Rattle.volatile.specs.Volatile.{engaged, commit-of, clear, acknowledge}
 use Rattle.volatile.specs.declared.Record.{Record}
 use Rattle.protocol.specs.Image.{Memory, Tags, Tentative, Put, rank, after, view}
 use Rattle.protocol.specs.Calls.{Request, Acknowledge, first, refusals, placing, deciding, acknowledging, Plan, plan}
@@ -80,14 +80,14 @@ module _ (s : Shape) (g : ℕ) (m₀ : Memory) where
           count-with (s .boards) (before .commit .acknowledged) i (group .few) (h .board) (h .awaited)
           ∙ ap suc (h .before-it .given)
 
-      context-length : length context-puts ≡ s .context
+      pub context-length : length context-puts ≡ s .context
       context-length = length-placing Tentative (i * s .context) context ∙ h .full
 
       context-tags : (b : ℕ) → tagged-in g (after context-puts m Tags b) ≡ tagged-in g (m₀ Tags b)
       context-tags b = given-tags s m i g context b ∙ h .before-it .tags b
 
       -- acknowledged boards are members
-      acks-inside : (j : ℕ) → has acks j ≡ true → has g j ≡ true
+      pub acks-inside : (j : ℕ) → has acks j ≡ true → has g j ≡ true
       acks-inside j y =
           let old = before .commit .acknowledged in
           let l = has-below 16 acks j (mask-below 16 (λ j. has old j || eqb i j)) y in
@@ -115,24 +115,30 @@ module _ (s : Shape) (g : ℕ) (m₀ : Memory) where
       unfolding acknowledging commit-of acknowledge
       plan-group = ap (λ p. p .group) (h .planned) ∙ h .before-it .members
 
-      some-stores : eqb acks g ≡ false → the-plan .stores ≡ context-puts
+      pub some-stores : eqb acks g ≡ false → the-plan .stores ≡ context-puts
       unfolding acknowledging commit-of acknowledge
       some-stores e =
           ap (λ p. p .stores) (h .planned)
           ∙ rw (ap (eqb acks) (h .before-it .members) ∙ e) (append-nil context-puts)
 
-      some-next : eqb acks g ≡ false → the-plan .next ≡ acknowledge before i
+      pub some-next : eqb acks g ≡ false → the-plan .next ≡ acknowledge before i
       unfolding acknowledging commit-of acknowledge
       some-next e = ap (λ p. p .next) (h .planned) ∙ rw (ap (eqb acks) (h .before-it .members) ∙ e)
 
-      all-stores : eqb acks g ≡ true → the-plan .stores ≡ context-puts ++ deciding s (after context-puts m) g
+      pub all-stores : eqb acks g ≡ true → the-plan .stores ≡ context-puts ++ deciding s (after context-puts m) g
       unfolding acknowledging commit-of acknowledge
       all-stores e =
           ap (λ p. p .stores) (h .planned)
           ∙ rw (ap (eqb acks) (h .before-it .members) ∙ e)
           (ap (λ x. context-puts ++ deciding s (after context-puts m) x) (h .before-it .members))
 
-      all-length : eqb acks g ≡ true → length (the-plan .stores) ≡ deciding-cost s g m₀
+      pub all-next : eqb acks g ≡ true → the-plan .next ≡ clear (acknowledge before i) g
+      unfolding acknowledging commit-of acknowledge
+      all-next e =
+          ap (λ p. p .next) (h .planned)
+          ∙ rw (ap (eqb acks) (h .before-it .members) ∙ e) (ap (clear (acknowledge before i)) (h .before-it .members))
+
+      pub all-length : eqb acks g ≡ true → length (the-plan .stores) ≡ deciding-cost s g m₀
       all-length e = ap length (all-stores e) ∙ deciding-length s m i g context (h .full) m₀ (h .before-it .tags)
 
       abbrev outcome : ℕ → Outcome
@@ -149,7 +155,7 @@ module _ (s : Shape) (g : ℕ) (m₀ : Memory) where
 
       -- some have not: the context alone is stored
       module _ (e : eqb acks g ≡ false) (k : ℕ) (l : s .context ≤ k) where
-        some-long : length (the-plan .stores) ≤ k
+        pub some-long : length (the-plan .stores) ≤ k
         some-long = rw (some-stores e, context-length) l
 
         pub some-answer : outcome k .reply .answer

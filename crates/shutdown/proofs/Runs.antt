@@ -1,0 +1,88 @@
+-- Calls made one after the other, and lists in which each board stands once.
+use Prim.Native.Nat.{ℕ, zero, suc, _+_}
+use mathlib.Core.Path.{_≡_, refl, sym, _∙_, ap}
+use mathlib.Core.Bool.{Bool, true, false, _&&_, _||_, not, cond}
+use mathlib.Core.List.{List, [], _∷_, _++_, map, map-append, append-assoc, append-nil}
+use mathlib.Core.Logic.{⊎-elim}
+use lib.Dec.{eqb}
+use native.Mathlib.Omega.{arith}
+use Rattle.boards.specs.Lists.{anyOf}
+use Rattle.boards.proofs.Basics.{decide, clash, or-false, false-or, eqb-same}
+use Rattle.volatile.specs.declared.Record.{Record}
+use Rattle.protocol.specs.Calls.{Request, perform}
+use Rattle.protocol.specs.Claim.{Call}
+use Rattle.costs.specs.Claims.{Answered-call, played}
+use Rattle.costs.proofs.Opened.{called}
+use Rattle.shutdown.specs.Shutdown.{times, call-of, left-by}
+
+-- The calls of a list are answered as is due and lead from one image and record to another, whatever follows them.
+pub record Leads (image : List ℕ) (r : Record) (due : List Answered-call) (image′ : List ℕ) (r′ : Record) : Type 0
+  where
+    pub answers : (more : List Call)
+        → played image r (map call-of due ++ more) ≡ due ++ played image′ r′ more
+    pub ends : (more : List Call) → left-by image r (map call-of due ++ more) ≡ left-by image′ r′ more
+
+module _ {image : List ℕ} {r : Record} where
+  pub leads-none : Leads image r [] image r
+  leads-none = record { answers = λ more. refl; ends = λ more. refl }
+
+  -- a call that is answered so, and those after it
+  pub leads-more : {image′ : List ℕ} {r′ : Record} (x : Answered-call) {due : List Answered-call}
+      → called image r (x .request) (x .k) ≡ x
+      → Leads (perform image r (x .request) (x .k) .image) (perform image r (x .request) (x .k) .reply .next) due
+      image′ r′
+      → Leads image r (x ∷ due) image′ r′
+  unfolding played left-by
+  leads-more x {due} e rest =
+      let o = perform image r (x .request) (x .k) in
+      record {
+        answers = λ more.
+            ap (λ y. y ∷ played (o .image) (o .reply .next) (map call-of due ++ more)) e
+            ∙ ap (λ l. x ∷ l) (rest .answers more);
+        ends = λ more. rest .ends more;
+      }
+
+-- calls after calls
+pub leads-then : {image image′ image″ : List ℕ} {r r′ r″ : Record} {xs ys : List Answered-call}
+    → Leads image r xs image′ r′ → Leads image′ r′ ys image″ r″ → Leads image r (xs ++ ys) image″ r″
+leads-then {image} {image″ = image″} {r} {r″ = r″} {xs} {ys} p q =
+    record {
+      answers = λ more.
+          ap (played image r) (calls more) ∙ p .answers (map call-of ys ++ more) ∙ ap (λ l. xs ++ l) (q .answers more)
+          ∙ sym (append-assoc xs ys (played image″ r″ more));
+      ends = λ more. ap (left-by image r) (calls more) ∙ p .ends (map call-of ys ++ more) ∙ q .ends more;
+    }
+  where
+    calls : (more : List Call) → map call-of (xs ++ ys) ++ more ≡ map call-of xs ++ (map call-of ys ++ more)
+    calls more =
+        ap (λ l. l ++ more) (map-append call-of xs ys) ∙ append-assoc (map call-of xs) (map call-of ys) more
+
+-- nothing follows them
+module _ {image image′ : List ℕ} {r r′ : Record} {due : List Answered-call} (p : Leads image r due image′ r′) where
+  pub leads-all : played image r (map call-of due) ≡ due
+  unfolding played
+  leads-all = ap (played image r) (sym (append-nil (map call-of due))) ∙ p .answers [] ∙ append-nil due
+
+  pub leads-end : left-by image r (map call-of due) ≡ record { image = image′; state = r′ }
+  unfolding left-by
+  leads-end = ap (left-by image r) (sym (append-nil (map call-of due))) ∙ p .ends []
+
+-- ---- how often a board is in a list
+
+pub times-head : (i : ℕ) (is : List ℕ) → times i (i ∷ is) ≡ suc (times i is)
+unfolding times
+times-head i is = rw (eqb-same i) (omega arith)
+
+pub times-other : (i j : ℕ) (is : List ℕ) → eqb i j ≡ false → times j (i ∷ is) ≡ times j is
+unfolding times
+times-other i j is e = rw e (omega arith)
+
+-- a test over two lists
+pub any-both : {X : Type 0} (p : X → Bool) (xs ys : List X) → anyOf p (xs ++ ys) ≡ false
+    → (anyOf p xs ≡ false) × (anyOf p ys ≡ false)
+unfolding anyOf
+any-both p [] ys e = (refl, e)
+any-both p (x ∷ xs) ys e =
+    let one = or-false (p x) (anyOf p (xs ++ ys)) e in
+    let rest = any-both p xs ys (one .1) in
+    (false-or (one .0) (rest .0), rest .1)
