@@ -19,7 +19,7 @@ use Rattle.volatile.specs.Volatile.{depends, bad-record}
 use Rattle.volatile.specs.declared.Record.{Record}
 use Rattle.volatile.proofs.Order.{orderly, rows-within}
 use Rattle.components.specs.Components.{component, ready, lowest, order-from, all-boards, order}
-use Rattle.components.specs.Claims.{at, Depends-before, Orders, Sixteen, Order-right}
+use Rattle.components.specs.Claims.{at, Depends-before, Orders, Sixteen-boards, Order-right}
 use Rattle.components.proofs.Ready.{minus-has, has-minus}
 use Rattle.components.proofs.Ready as next
 
@@ -131,9 +131,12 @@ module _ {d : Links} (b : Bounded 16 d) {left : ℕ} (small : left < 2 ^ 16) (ba
           }
           in
           let least = next.next-least b small back any-left j r in
-          let own = next.in-next b small back any-left i₀ .1 (here, here) in
-          (i₀, own, ⊎-elim (λ l. l) (λ l. clash (subst (λ x. has gone x ≡ true) (omega arith) own) (s .1))
-          (below-or i₀ j))
+          let own = next.in-next b small back any-left i₀ .1 (here, here) in (
+            i₀,
+            own,
+            ⊎-elim (λ l. l) (λ l. clash (subst (λ x. has gone x ≡ true) (omega arith) own) (s .1))
+                (below-or i₀ j),
+          )
       lowest-of (suc x) (suc y) j l f h =
           o .lowest-first x y j (omega arith)
           (λ a k z g c q. ⊎-elim (λ (e : suc z < suc x). inl (omega arith)) (λ (e : suc z ≡ suc y). inr (omega arith))
@@ -315,7 +318,7 @@ all-few p (suc n) =
     (below-or n p)
 
 -- a record that passes test 12 has dependences among the boards below P alone
-pub record-bounded : (p : ℕ) (r : Record) → bad-record p r ≡ false → Sixteen r → Bounded p (depends r)
+pub record-bounded : (p : ℕ) (r : Record) → bad-record p r ≡ false → Sixteen-boards r → Bounded p (depends r)
 unfolding depends
 record-bounded p r e sixteen =
     let rows = rows-within p (r .rows) (orderly p r e .rows) in

@@ -194,7 +194,7 @@ module _ {d : Links} (b : Bounded 16 d) where
       abbrev pub next : ℕ
       next = lowest 16 (ready d left)
 
-      next-holds : (next < 16) × (ready d left next ≡ true)
+      pub next-holds : (next < 16) × (ready d left next ≡ true)
       next-holds =
           let (i, l, e) = has-some left small any-left in
           let (j, r) = find (count 16 (has (commit-group d i))) i e (omega arith) in

@@ -37,13 +37,13 @@ pub record Orders (d : Links) (p : ℕ → Bool) (sets : List ℕ) : Type 0 wher
   pub lowest-first : (x y j : ℕ) → x < y → Depends-before d sets x y → has (at sets y) j ≡ true
       → (i : ℕ) × (has (at sets x) i ≡ true) × (i < j)
 
--- sixteen rows of sixteen bits, as in the code
-abbrev pub Sixteen : Record → Type 0
-Sixteen r = (a b : ℕ) → depends r a b ≡ true → (a < 16) × (b < 16)
+-- dependences among sixteen boards only, as rows of sixteen bits can say them
+abbrev pub Sixteen-boards : Record → Type 0
+Sixteen-boards r = (a b : ℕ) → depends r a b ≡ true → (a < 16) × (b < 16)
 
 -- For every record that passes test 12, the order is right, and every list that is right is this one.
 abbrev pub Order-right : Type 0
 Order-right =
-    (p : ℕ) (r : Record) → p ≤ 16 → bad-record p r ≡ false → Sixteen r
+    (p : ℕ) (r : Record) → p ≤ 16 → bad-record p r ≡ false → Sixteen-boards r
     → let right = Orders (depends r) (λ j. ltb j p) in
     right (order p (depends r)) × ((sets : List ℕ) → right sets → sets ≡ order p (depends r))

@@ -20,7 +20,7 @@ use Rattle.boards.proofs.Groups.{in-commit-group, commit-group-small, mask-belo
 use Rattle.volatile.specs.Volatile.{depends, engaged, bad-record}
 use Rattle.volatile.specs.declared.Record.{Record}
 use Rattle.components.specs.Components.{component, order-from, all-boards, order}
-use Rattle.components.specs.Claims.{Sixteen}
+use Rattle.components.specs.Claims.{Sixteen-boards}
 use Rattle.components.proofs.Ready.{minus-has, has-minus}
 use Rattle.components.proofs.Ready as next
 use Rattle.components.proofs.Orders.{record-bounded, has-all, all-back, all-few, none-counted}
@@ -289,7 +289,7 @@ untagged zero = refl
 untagged (suc j) = has-zero j
 
 module _ (image : List ℕ) (r : Record) (ordered : in-order 0 image ≡ true)
-    (recorded : bad-record (shape-of image .boards) r ≡ false) (free : engaged r ≡ 0) (sixteen : Sixteen r)
+    (recorded : bad-record (shape-of image .boards) r ≡ false) (free : engaged r ≡ 0) (sixteen : Sixteen-boards r)
   where
     abbrev shape : Shape
     shape = shape-of image

@@ -11,7 +11,7 @@ use Rattle.boards.specs.Boards.{has}
 use Rattle.volatile.specs.Volatile.{depends, engaged, bad-record}
 use Rattle.volatile.specs.declared.Record.{Record}
 use Rattle.components.specs.Components.{order}
-use Rattle.components.specs.Claims.{Sixteen}
+use Rattle.components.specs.Claims.{Sixteen-boards}
 use Rattle.protocol.specs.Image.{Memory, Tags, shape-of, in-order, view}
 use Rattle.protocol.specs.Calls.{Request, Start, Acknowledge, bad-tags, perform}
 use Rattle.protocol.specs.Claim.{Call}
@@ -96,7 +96,7 @@ pub record Committed (s : Shape) (image : List ℕ) (r : Record) (due : List Ans
 abbrev pub Commits-in-order : Type 0
 Commits-in-order =
     (image : List ℕ) (r : Record) → in-order 0 image ≡ true → bad-record (shape-of image .boards) r ≡ false
-    → engaged r ≡ 0 → Sixteen r
+    → engaged r ≡ 0 → Sixteen-boards r
     → let s = shape-of image in
     let components = order (s .boards) (depends r) in
     (boards : List (List ℕ)) → Sequence components boards

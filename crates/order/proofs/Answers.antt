@@ -1,0 +1,95 @@
+-- What the call answers: refused, or the order of all boards.
+use Prim.Native.Nat.{ℕ, _+_, _≤_, _<_}
+use mathlib.Core.Path.{_≡_, refl, sym, _∙_, ap, subst, fun-ext}
+use mathlib.Core.Bool.{true, false, not}
+use mathlib.Core.List.{List, [], _++_}
+use mathlib.Core.Logic.{⊎-elim, _≢_}
+use lib.Dec.{eqb, ltb, leb}
+use lib.ListN.{length, drop}
+use native.Mathlib.Omega.{arith}
+use native.Mathlib.Nat.{zero-add}
+use borrow.Author.Tests.{eq-eqb, ne-eqb, lt-leb}
+use Rattle.boards.specs.Boards.{has}
+use Rattle.boards.specs.Rows.{links-of}
+use Rattle.boards.proofs.Basics.{decide}
+use Rattle.boards.proofs.Groups.{count, Bounded}
+use Rattle.boards.proofs.Masks.{Sixteen}
+use Rattle.volatile.specs.Volatile.{depends, engaged, bad-record}
+use Rattle.volatile.specs.declared.Record.{Record}
+use Rattle.components.specs.Components.{all-boards, order}
+use Rattle.components.proofs.Orders.{record-bounded, has-all, all-back, all-few}
+use Rattle.protocol.specs.Image.{in-order, shape-of}
+use Rattle.protocol.specs.Calls.{first, entry-tests, filled}
+use Rattle.protocol.specs.declared.Shape.{Shape}
+use Rattle.protocol.proofs.Bridge.{limits, order-sound}
+use Rattle.protocol.proofs.Refusals.{entered}
+use Rattle.order.specs.Call.{order-tests, order-status, components, Answers-order, With-dependents, Put-from}
+use Rattle.order.specs.declared.Ordered.{Ordered}
+use Rattle.order.proofs.Next.{rows-bounded}
+
+-- ---- the tests, of which the first two are made as for board 0, which every shape has
+
+module _ (image : List ℕ) (r : Record) where
+  pub entry-stops : first (entry-tests image r 0) ≢ 0 → order-status image r ≡ first (entry-tests image r 0)
+  unfolding entry-tests first
+  entry-stops stops =
+      ⊎-elim
+      (λ (e : in-order 0 image ≡ true).
+      ⊎-elim
+      (λ (f : bad-record (shape-of image .boards) r ≡ true). rw (e, f))
+      (λ (f : bad-record (shape-of image .boards) r ≡ false).
+      let some = limits (shape-of image) (order-sound e .0 .allowed-shape) .some-boards in
+      absurd (stops (rw (e, f, lt-leb (shape-of image .boards) 0 (omega arith)))))
+      (decide (bad-record (shape-of image .boards) r)))
+      (λ (e : in-order 0 image ≡ false). rw e)
+      (decide (in-order 0 image))
+
+  module _ (passes : first (entry-tests image r 0) ≡ 0) where
+    pub commit-open : engaged r ≢ 0 → order-status image r ≡ 14
+    unfolding first
+    commit-open e =
+        let h = entered image r 0 refl passes in
+        rw (h .ordered, h .recorded, ne-eqb (engaged r) 0 e)
+
+    pub all-passed : engaged r ≡ 0 → order-status image r ≡ 0
+    unfolding first
+    all-passed e =
+        let h = entered image r 0 refl passes in
+        rw (h .ordered, h .recorded, eq-eqb (engaged r) 0 e)
+
+  -- ---- the answer
+
+  pub refused-so : {n : ℕ} {a : Ordered} {masks : List ℕ} → order-status image r ≡ n → n ≢ 0
+      → a ≡ record { status = n; count = 0 } → Answers-order image r masks a masks
+  unfolding components filled
+  refused-so {n} {a} {masks} e some same =
+      let stops : eqb (order-status image r) 0 ≡ false = ap (λ x. eqb x 0) e ∙ ne-eqb n 0 some in
+      record { answer = same ∙ rw (stops, e); masks-after = rw stops }
+
+-- all boards are left: the code's rows are sixteen numbers of sixteen bits
+module _ (image : List ℕ) (r : Record) (rows : Sixteen (r .rows)) {s : Shape} (same : shape-of image ≡ s)
+    (most : s .boards ≤ 16) (recorded : bad-record (s .boards) r ≡ false)
+  where
+    bounded : Bounded (s .boards) (depends r)
+    unfolding depends
+    bounded = record-bounded (s .boards) r recorded (rows-bounded rows .ends)
+
+    pub all-dependents : With-dependents (links-of (r .rows)) (all-boards (s .boards))
+    unfolding depends
+    all-dependents = all-back most bounded .onto
+
+    pub few-boards : count 16 (has (all-boards (s .boards))) ≤ s .boards
+    few-boards =
+        subst (λ q. count 16 q ≤ s .boards) (sym (fun-ext (has-all most bounded))) (all-few (s .boards) 16)
+
+    pub taken-so : {n : ℕ} {a : Ordered} {masks after : List ℕ} → order-status image r ≡ 0
+        → Put-from (links-of (r .rows)) (all-boards (s .boards)) 0 masks n after
+        → a ≡ record { status = 0; count = n } → Answers-order image r masks a after
+    unfolding components filled order depends
+    taken-so {n} {a} {masks} {after} z p e =
+        let passes : eqb (order-status image r) 0 ≡ true = ap (λ x. eqb x 0) z in
+        let count = p .end (s .boards) few-boards ∙ zero-add _ in
+        record {
+          answer = e ∙ rw (passes, z, same) (ap (λ x. record { status = 0; count = x }) count);
+          masks-after = rw (passes, same) (p .masks (s .boards) few-boards ∙ rw zero-add);
+        }

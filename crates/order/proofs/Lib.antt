@@ -1,0 +1,3 @@
+mod Next
+mod Masks
+mod Answers
