@@ -1,22 +1,22 @@
 -- What the call answers: refused, or the order of all boards.
-use Prim.Native.Nat.{ℕ, _+_, _≤_, _<_}
+use Prim.Native.Nat.{ℕ, zero, suc, _+_, _≤_, _<_}
 use mathlib.Core.Path.{_≡_, refl, sym, _∙_, ap, subst, fun-ext}
-use mathlib.Core.Bool.{true, false, not}
-use mathlib.Core.List.{List, [], _++_}
+use mathlib.Core.Bool.{Bool, true, false, not, cond}
+use mathlib.Core.List.{List, [], _∷_, _++_}
 use mathlib.Core.Logic.{⊎-elim, _≢_}
 use lib.Dec.{eqb, ltb, leb}
 use lib.ListN.{length, drop}
 use native.Mathlib.Omega.{arith}
 use native.Mathlib.Nat.{zero-add}
 use borrow.Author.Tests.{eq-eqb, ne-eqb, lt-leb}
-use Rattle.boards.specs.Boards.{has}
-use Rattle.boards.specs.Rows.{links-of}
+use Rattle.boards.specs.Boards.{has, Links}
+use Rattle.boards.specs.Rows.{links-of, minus}
 use Rattle.boards.proofs.Basics.{decide}
 use Rattle.boards.proofs.Groups.{count, Bounded}
 use Rattle.boards.proofs.Masks.{Sixteen}
 use Rattle.volatile.specs.Volatile.{depends, engaged, bad-record}
 use Rattle.volatile.specs.declared.Record.{Record}
-use Rattle.components.specs.Components.{all-boards, order}
+use Rattle.components.specs.Components.{component, ready, lowest, order-from, all-boards, order}
 use Rattle.components.proofs.Orders.{record-bounded, has-all, all-back, all-few}
 use Rattle.protocol.specs.Image.{in-order, shape-of}
 use Rattle.protocol.specs.Calls.{first, entry-tests, filled}
@@ -93,3 +93,29 @@ module _ (image : List ℕ) (r : Record) (rows : Sixteen (r .rows)) {s : Shape} 
           answer = e ∙ rw (passes, z, same) (ap (λ x. record { status = 0; count = x }) count);
           masks-after = rw (passes, same) (p .masks (s .boards) few-boards ∙ rw zero-add);
         }
+
+-- ---- sixteen components at most
+
+either-long : (b : Bool) (xs ys : List ℕ) (n : ℕ) → length xs ≤ n → length ys ≤ n → length (cond b xs ys) ≤ n
+either-long true xs ys n l m = l
+either-long false xs ys n l m = m
+
+at-most : (d : Links) (n left : ℕ) → length (order-from d n left) ≤ n
+unfolding order-from
+at-most d zero left = omega arith
+at-most d (suc n) left =
+    let c = component d (lowest 16 (ready d left)) in
+    let later = at-most d n (minus left c) in
+    either-long (eqb left 0) [] (c ∷ order-from d n (minus left c)) (suc n) (omega arith) (omega arith)
+
+pub few-components : (image : List ℕ) (r : Record) → length (components image r) ≤ 16
+unfolding components first order
+few-components image r =
+    ⊎-elim
+    (λ (e : in-order 0 image ≡ true).
+    let p = shape-of image .boards in
+    let most = limits (shape-of image) (order-sound e .0 .allowed-shape) .most-boards in
+    let few = at-most (depends r) p (all-boards p) in
+    either-long (eqb (order-status image r) 0) (order p (depends r)) [] 16 (omega arith) (omega arith))
+    (λ (e : in-order 0 image ≡ false). rw e (omega arith))
+    (decide (in-order 0 image))

@@ -1,3 +1,3 @@
 mod Next
 mod Masks
-mod Answers
+pub mod Answers
