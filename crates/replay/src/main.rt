@@ -1,7 +1,7 @@
 // Plays the event file of each name that the arguments give, read in pieces of several sizes, and compares what is
-// printed with what is stored. NAME stands for NAME.events, NAME.answers as `rsmrun` prints them and NAME.page as
-// `rsmpage` does, in the folder that the program is run in; what is printed goes through a file of that folder. A file
-// that can't be read is not as expected.
+// printed with what is stored. NAME stands for NAME.events, NAME.answers as `rsmrun` prints them, NAME.page as `rsmpage`
+// does and NAME.order as `rsmorder` does, in the folder that the program is run in; what is printed goes through a file
+// of that folder. A file that can't be read is not as expected.
 use reports::Task;
 use stream::Ended;
 ghost use Prim.Native.Nat.{_+_, _≤_};
@@ -176,8 +176,8 @@ fn play_name(path: &mut [u8], n: usize, size: usize, task: Task, ending: &[u8]) 
     as_expected(all, &path[0..last])
 }
 
-// Whether both answers and page are as expected.
-fn play_both(path: &mut [u8], n: usize, size: usize) -> bool
+// Whether answers, page and order are as expected.
+fn play_all(path: &mut [u8], n: usize, size: usize) -> bool
     requires { ⌜ (n ≤ length (now path)) × (1 ≤ size) × (size ≤ 8192) ⌝ }
 {
     let rows = Task::rows();
@@ -185,16 +185,20 @@ fn play_both(path: &mut [u8], n: usize, size: usize) -> bool
         return false;
     }
     let page = Task::page();
-    play_name(path, n, size, page, b".page")
+    if !play_name(path, n, size, page, b".page") {
+        return false;
+    }
+    let order = Task::order();
+    play_name(path, n, size, order, b".order")
 }
 
-// Plays them by pieces of each size; the first size by which answers or page are not as expected, or 0.
+// Plays them by pieces of each size; the first size by which one of these is not as expected, or 0.
 fn play_sizes(path: &mut [u8], n: usize) -> usize
     requires { ⌜ n ≤ length (now path) ⌝ }
 {
     for i in 0..5 {
         let size = size_of(i);
-        if !play_both(path, n, size) {
+        if !play_all(path, n, size) {
             return size;
         }
     }

@@ -26,10 +26,12 @@ use Rattle.page.proofs.Columns.{length-commit}
 use Rattle.page.proofs.Bounds.{decided-fits}
 use Rattle.sheet.specs.Sums.{Small}
 use Rattle.text.specs.Turns.{Player}
+use Rattle.listing.specs.Listing.{order-step, rsmorder}
 use Rattle.runner.specs.OneLine.{run-of, Event-played}
 use Rattle.runner.specs.declared.Run.{Run}
 use Rattle.runner.specs.declared.Played.{Played}
-use Rattle.reports.specs.Reports.{State, Rows-state, Page-state, lifted, report-step, report-close, reporting}
+use Rattle.reports.specs.Reports.{State, Rows-state, Page-state, Order-state, lifted, report-step}
+use Rattle.reports.specs.Reports.{report-close, reporting}
 use Rattle.reports.specs.Reports.{Each-its-own, goes}
 use Rattle.reports.specs.Tasks.{by-report, state-of, event-text, state-after, Amounts-fit, Decided-printed}
 use Rattle.reports.specs.Tasks.{Rows-printed, Stepped-on}
@@ -38,7 +40,7 @@ use Rattle.reports.specs.declared.Report.the-variants as report
 use Rattle.reports.specs.declared.Task.{Task}
 use Rattle.reports.specs.declared.Stepped.{Stepped}
 
--- ---- one program for both
+-- ---- one program for all
 
 -- a program whose states are some of theirs
 module _ {A : Type 0} (q : Program A) (f : A → State)
@@ -62,6 +64,7 @@ each-its-own =
     record {
       rows = as-alone rsmrun Rows-state (λ a l. refl) (λ a. refl);
       page = as-alone rsmpage Page-state (λ a l. refl) (λ a. refl);
+      order = as-alone rsmorder Order-state (λ a l. refl) (λ a. refl);
     }
 
 -- ---- the next line
@@ -71,11 +74,16 @@ module _ (w : Whole) where
   unfolding goes page-goes
   past-last report.Rows l = sym (le-ltb (w .played) most-lines l)
   past-last (report.Page t) l = sym (false-and _ (le-ltb (w .played) most-lines l))
+  past-last report.Order l = sym (le-ltb (w .played) most-lines l)
 
   module _ (l : w .played < most-lines) where
     pub rows-go : true ≡ goes (Rows-state w)
     unfolding goes
     rows-go = sym (lt-ltb (w .played) most-lines l)
+
+    pub order-goes : true ≡ goes (Order-state w)
+    unfolding goes
+    order-goes = sym (lt-ltb (w .played) most-lines l)
 
     pub page-goes-on : (t : Totals) → leb (t .commits) 9999 ≡ goes (Page-state (record { run = w; totals = t }))
     unfolding goes page-goes
@@ -87,6 +95,7 @@ unfolding goes page-goes
 going-lines report.Rows w e = ltb-true (w .played) most-lines e
 going-lines (report.Page t) w e =
     ltb-true (w .played) most-lines (and-true (ltb (w .played) most-lines) (leb (t .commits) 9999) e .0)
+going-lines report.Order w e = ltb-true (w .played) most-lines e
 
 pub going-commits : (t : Totals) (w : Whole) → goes (by-report (report.Page t) w) ≡ true → t .commits ≤ 9999
 unfolding goes page-goes
@@ -97,14 +106,16 @@ going-commits t w e =
 pub goes-steps : (v : State) (l : Line) → goes v ≡ true
     → reporting .step v l ≡ Goes (event-text v (taken l)) (state-after v (taken l))
 unfolding reporting report-step lifted goes event-text state-after
-    rsmrun line-step line-text line-rows next-run rsmpage page-step
+    rsmrun line-step line-text line-rows next-run rsmpage page-step rsmorder order-step
 goes-steps (Rows-state r) l e = rw e
 goes-steps (Page-state p) l e = rw e
+goes-steps (Order-state r) l e = rw e
 
 pub ends-steps : (v : State) (l : Line) → goes v ≡ false → reporting .step v l ≡ Ends
-unfolding reporting report-step lifted goes rsmrun line-step rsmpage page-step
+unfolding reporting report-step lifted goes rsmrun line-step rsmpage page-step rsmorder order-step
 ends-steps (Rows-state r) l e = rw e
 ends-steps (Page-state p) l e = rw e
+ends-steps (Order-state r) l e = rw e
 
 -- ---- commits
 
@@ -183,12 +194,27 @@ module _ (w : Whole) (e : Event) {at : ℕ} {out area x buffer : List ℕ} {p : 
           fits = rw (printed .task) (record { image = played .fits; report = printed .small });
         }
 
+-- nothing is printed of a line before the order
+pub order-stepped : (w : Whole) (e : Event) {at : ℕ} {out area buffer : List ℕ} {p : Played}
+    → Event-played w e p area buffer → at ≤ length out
+    → Stepped-on (Order-state w) e at out
+    (record { task = record { run = p .run; report = report.Order }; written = at }) area out
+unfolding event-text state-after
+order-stepped w e {at} {out} played l =
+    record {
+      written = appends-none out at l;
+      next = ap Order-state (played .next);
+      most = omega arith;
+      fits = record { image = played .fits; report = tt };
+    }
+
 -- ---- one line more
 
 -- how many lines were played
 abbrev lines-played : State → ℕ
 lines-played (Rows-state w) = w .played
 lines-played (Page-state p) = p .run .played
+lines-played (Order-state w) = w .played
 
 task-played : (t : Task) (area : List ℕ) → lines-played (state-of t area) ≡ t .run .played
 task-played t area = go (t .report)
@@ -196,11 +222,13 @@ task-played t area = go (t .report)
     go : (r : Report) → lines-played (by-report r (run-of (t .run) area)) ≡ t .run .played
     go report.Rows = refl
     go (report.Page totals) = refl
+    go report.Order = refl
 
 one-more : (v : State) (e : Event) → lines-played (state-after v e) ≡ suc (lines-played v)
 unfolding state-after
 one-more (Rows-state w) e = refl
 one-more (Page-state p) e = refl
+one-more (Order-state w) e = refl
 
 -- one that goes on has not played all lines that a run takes
 pub task-lines : (t : Task) (area : List ℕ) → goes (state-of t area) ≡ true → t .run .played < most-lines

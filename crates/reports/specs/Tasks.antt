@@ -2,7 +2,7 @@
 use Prim.Native.Nat.{ℕ, suc, _+_, _≤_}
 use mathlib.Core.Path.{_≡_}
 use mathlib.Core.Bool.{true}
-use mathlib.Core.List.{List}
+use mathlib.Core.List.{List, []}
 use lib.ListN.{length}
 use Rattle.text.specs.Events.{Event}
 use Rattle.text.specs.Rows.{rows-text, rows-meant}
@@ -19,7 +19,7 @@ use Rattle.turns.specs.Turned.{area-size}
 use Rattle.runner.specs.OneLine.{run-of}
 use Rattle.runner.specs.declared.Run.{Run}
 use Rattle.runner.specs.declared.Played.{Played}
-use Rattle.reports.specs.Reports.{State, Rows-state, Page-state, goes}
+use Rattle.reports.specs.Reports.{State, Rows-state, Page-state, Order-state, goes}
 use Rattle.reports.specs.declared.Report.{Report}
 use Rattle.reports.specs.declared.Report.the-variants as report
 use Rattle.reports.specs.declared.Task.{Task}
@@ -31,6 +31,7 @@ use Rattle.reports.specs.declared.Stepped.{Stepped}
 abbrev pub by-report : Report → Whole → State
 by-report report.Rows w = Rows-state w
 by-report (report.Page t) w = Page-state (record { run = w; totals = t })
+by-report report.Order w = Order-state w
 
 abbrev pub state-of : Task → List ℕ → State
 state-of t area = by-report (t .report) (run-of (t .run) area)
@@ -39,6 +40,7 @@ state-of t area = by-report (t .report) (run-of (t .run) area)
 abbrev pub Small-report : Report → Type 0
 Small-report report.Rows = Unit {0}
 Small-report (report.Page t) = Small t
+Small-report report.Order = Unit {0}
 
 -- the image is no larger than the largest
 pub record Fits (t : Task) : Type 0 where
@@ -57,12 +59,14 @@ pub record Able (t : Task) (area : List ℕ) : Type 0 where
 unfoldable pub event-text : State → Event → List ℕ
 event-text (Rows-state w) e = rows-text (suc (w .played)) (play (w .player) e .rows)
 event-text (Page-state p) e = decided-text (p .totals) (decided-by (p .run .player) e)
+event-text (Order-state w) e = []
 
 unfoldable pub state-after : State → Event → State
 state-after (Rows-state w) e = Rows-state (run-after w e)
 state-after (Page-state p) e =
     let d = decided-by (p .run .player) e in
     Page-state (record { run = run-after (p .run) e; totals = totals-after (p .totals) d })
+state-after (Order-state w) e = Order-state (run-after w e)
 
 -- the text of an event stands in the output from `at` on
 pub record Stepped-on (v : State) (e : Event) (at : ℕ) (before : List ℕ) (r : Stepped) (area after : List ℕ) : Type 0
@@ -78,6 +82,7 @@ pub record Stepped-on (v : State) (e : Event) (at : ℕ) (before : List ℕ) (r 
 abbrev pub To-be-decided : Report → Player → Event → Decided → Type 0
 To-be-decided report.Rows p e d = Unit {0}
 To-be-decided (report.Page t) p e d = d ≡ decided-by p e
+To-be-decided report.Order p e d = Unit {0}
 
 -- its rows are printed, under the number of lines that were played
 pub record Rows-printed (p : Played) (buffer : List ℕ) (at : ℕ) (before : List ℕ) (r : Stepped) (after : List ℕ)

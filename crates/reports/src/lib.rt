@@ -1,6 +1,7 @@
-// What a program prints of the lines that it plays: their rows, as `rsmrun` does, or a page, as `rsmpage` does. A line
-// is played in one way, whatever is printed of it.
+// What a program prints of the lines that it plays: their rows, as `rsmrun` does, a page, as `rsmpage` does, or behind
+// the last the boards' order, as `rsmorder` does. A line is played in one way, whatever is printed of it.
 use events::take_apart;
+use listing::put_order;
 use page::Decided;
 use page::Totals;
 use printing::put_rows;
@@ -22,18 +23,19 @@ ghost use Prim.Native.Nat.{ℕ, _+_, _≤_};
 ghost use lib.ListN.{length};
 ghost use Rattle.digits.specs.Append.{Appends};
 ghost use Rattle.text.specs.Events.{counted, meant, taken};
-ghost use Rattle.text.specs.Whole.{Run as Whole, start};
+ghost use Rattle.text.specs.Whole.{start};
 ghost use Rattle.page.specs.Page.{first-page};
 ghost use Rattle.sheet.specs.Sums.{Small};
 ghost use Rattle.turns.specs.Turned.{player-of};
-ghost use Rattle.reports.specs.Reports.{Rows-state, Page-state, goes, report-close};
-ghost use Rattle.reports.specs.Tasks.{by-report, state-of, Fits, Able, Stepped-on};
+ghost use Rattle.reports.specs.Reports.{Rows-state, Page-state, Order-state, goes, report-close};
+ghost use Rattle.reports.specs.Tasks.{state-of, Fits, Able, Stepped-on};
 ghost use Rattle.reports.specs.Tasks.{To-be-decided, Rows-printed, Amounts-fit, Decided-printed};
 
-// The rows of each line, or a line of the page for each decided commit.
+// The rows of each line, a line of the page for each decided commit, or the order alone.
 pub enum Report {
     Rows,
     Page(Totals),
+    Order,
 }
 
 // A run, and what is printed of it.
@@ -68,6 +70,15 @@ impl Task {
         Task { run, report }
     }
 
+    // `rsmorder` before its first line.
+    pub fn order() -> Task
+        ensures { λ r. ⌜ Fits r × ((area : List ℕ) → state-of r area ≡ Order-state start) ⌝ }
+    {
+        let run = Run::new();
+        let report = Report::Order;
+        Task { run, report }
+    }
+
     // Whether a next line is played.
     pub fn goes_on(self) -> bool
         ensures { λ r. ⌜ ((area : List ℕ) → r ≡ goes (state-of self area)) ⌝ }
@@ -79,6 +90,7 @@ impl Task {
         match report {
             Report::Rows => true,
             Report::Page(totals) => totals.commits <= MOST_COMMITS,
+            Report::Order => true,
         }
     }
 }
@@ -95,12 +107,15 @@ fn to_be_decided(
     ensures { λ r. ⌜ To-be-decided report (player-of session (now (area .entry)))
         (meant line (now (buffer .entry))) r ⌝ }
 {
-    let Report::Page(_) = report else {
-        return Decided::Nothing;
-    };
-    let n = session.length;
-    let state = session.state;
-    decided_by(&area[0..n], state, session.k, line, buffer)
+    match report {
+        Report::Rows => Decided::Nothing,
+        Report::Page(_) => {
+            let n = session.length;
+            let state = session.state;
+            decided_by(&area[0..n], state, session.k, line, buffer)
+        }
+        Report::Order => Decided::Nothing,
+    }
 }
 
 // The rows of a line.
@@ -163,17 +178,29 @@ pub fn step(
             let next = played.run;
             print_decided(next, t, d, out, at)
         }
+        Report::Order => {
+            let run = played.run;
+            let task = Task { run, report };
+            Stepped { task, written: at }
+        }
     }
 }
 
 // What is printed behind the last line.
-pub fn close(report: Report, out: &mut [u8], at: usize) -> usize
-    requires { ⌜ at + 32 ≤ length (now out) ⌝ }
-    ensures { λ r. ⌜ ((w : Whole) → Appends (report-close (by-report report w)) at (now (out .entry)) r
-        (now (out .exit))) ⌝ }
+pub fn close(task: Task, area: &[u8], out: &mut [u8], at: usize) -> usize
+    requires { ⌜ (task .run .session .length ≤ length (now area)) × (at + 80 ≤ length (now out)) ⌝ }
+    ensures { λ r. ⌜ Appends (report-close (state-of task (now (area .entry)))) at (now (out .entry)) r
+        (now (out .exit)) ⌝ }
 {
+    let report = task.report;
     match report {
         Report::Rows => at,
         Report::Page(totals) => put_total(out, at, totals),
+        Report::Order => {
+            let session = task.run.session;
+            let n = session.length;
+            let state = session.state;
+            put_order(&area[0..n], state, out, at)
+        }
     }
 }

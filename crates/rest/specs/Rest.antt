@@ -7,7 +7,7 @@ use Rattle.text.specs.Whole.{lines, output-by}
 use Rattle.pieces.specs.declared.Got.{Got}
 use Rattle.pieces.specs.declared.Got.the-variants.{Text, End, Failed}
 use Rattle.reports.specs.Reports.{State, report-close, reporting}
-use Rattle.reports.specs.Tasks.{state-of}
+use Rattle.reports.specs.Tasks.{state-of, Fits}
 use Rattle.reports.specs.declared.Stepped.{Stepped}
 
 -- the output still due when no text comes any more: at the input's end that of the last line and what the program
@@ -21,6 +21,7 @@ still-due Failed w rest = []
 pub record Last-stepped (w : State) (rest : List ℕ) (r : Stepped) (area out : List ℕ) : Type 0 where
   pub output : output-by reporting w (lines rest) ≡ take (r .written) out ++ report-close (state-of (r .task) area)
   pub written : r .written ≤ 320
+  pub fits : Fits (r .task)
 
 pub record Last (got : Got) (w : State) (rest : List ℕ) (r : ℕ) (out : List ℕ) : Type 0 where
   pub output : still-due got w rest ≡ take r out

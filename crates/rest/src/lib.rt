@@ -32,20 +32,19 @@ fn last_step(rest: &[u8], area: &mut [u8], task: Task, out: &mut [u8]) -> Steppe
 
 // How much output the last line gave, with what is printed behind it.
 fn play_last(rest: &[u8], area: &mut [u8], task: Task, out: &mut [u8]) -> usize
-    requires { ⌜ (Unbroken (now rest)) × Fits task × (35852 ≤ length (now area)) × (352 ≤ length (now out)) ⌝ }
+    requires { ⌜ (Unbroken (now rest)) × Fits task × (35852 ≤ length (now area)) × (400 ≤ length (now out)) ⌝ }
     ensures { λ r. ⌜ (r ≤ length (now (out .exit))) × (output-by reporting (state-of task (now (area .entry)))
         (lines (now (rest .entry))) ≡ take r (now (out .exit))) ⌝ }
 {
     let stepped = last_step(rest, area, task, out);
     let last = stepped.task;
-    let report = last.report;
-    close(report, out, stepped.written)
+    close(last, area, out, stepped.written)
 }
 
 // How much output is left when no text comes any more: that of the last line and what is printed behind it, and none
 // after a read that failed.
 pub fn play_rest(got: Got, rest: &[u8], area: &mut [u8], task: Task, out: &mut [u8]) -> usize
-    requires { ⌜ (Over got (now rest)) × Fits task × (35852 ≤ length (now area)) × (352 ≤ length (now out)) ⌝ }
+    requires { ⌜ (Over got (now rest)) × Fits task × (35852 ≤ length (now area)) × (400 ≤ length (now out)) ⌝ }
     ensures { λ r. ⌜ Last got (state-of task (now (area .entry))) (now (rest .entry)) r (now (out .exit)) ⌝ }
 {
     match got {

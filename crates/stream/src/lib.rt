@@ -52,7 +52,7 @@ fn ending(got: Got) -> Ended {
 
 // No text comes any more: what is left is played and written.
 fn close(got: Got, to: i32, rest: &[u8], area: &mut [u8], task: Task, out: &mut [u8]) -> Ended
-    requires { ⌜ (Over got (now rest)) × Fits task × (35852 ≤ length (now area)) × (352 ≤ length (now out)) ⌝ }
+    requires { ⌜ (Over got (now rest)) × Fits task × (35852 ≤ length (now area)) × (400 ≤ length (now out)) ⌝ }
 {
     let n = play_rest(got, rest, area, task, out);
     if !io::write_all(to, &out[0..n]) {
@@ -75,7 +75,7 @@ pub fn play(
     out: &mut [u8],
 ) -> Ended
     requires { ⌜ (1 ≤ size) × Fits first × (161 + size ≤ length (now input)) × (35852 ≤ length (now area))
-        × (352 ≤ length (now out)) ⌝ }
+        × (400 ≤ length (now out)) ⌝ }
 {
     let mut task = first;
     let mut held = 0;

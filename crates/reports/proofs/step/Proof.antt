@@ -3,7 +3,8 @@ use borrow.Author.Needs.{needs}
 use mathlib.Core.Path.{_∙_}
 use native.Mathlib.Omega.{arith}
 use Rattle.runner.specs.OneLine.{run-of}
-use Rattle.reports.proofs.Laws.{going-lines, going-commits, decided-amounts, rows-stepped, page-stepped}
+use Rattle.reports.proofs.Laws.{going-lines, going-commits, decided-amounts, rows-stepped}
+use Rattle.reports.proofs.Laws.{page-stepped, order-stepped}
 use Rattle.reports.proofs.step.Statement.{statement}
 use Rattle.reports.proofs.step.Tie as tie
 
@@ -106,6 +107,30 @@ returns-2 c =
     (page-stepped w _ (played .play-event .ensures) (rw (told .report .given .1) at (looked .to-be-decided .ensures))
     (printed .print-decided .ensures))
 
+enum-told-2 : tie.Need-enum-told-2
+enum-told-2 c = search needs
+
+same-length-7 : tie.Need-same-length-7
+same-length-7 c = search needs
+
+same-length-8 : tie.Need-same-length-8
+same-length-8 c =
+    let after = c .before .before .before .before in
+    let played = after .before .before .before in
+    let cleared = played .before .before .before .before .before .before .before .before .before in
+    after .buffer2 .given ∙ cleared .buffer .given
+
+returns-3 : tie.Need-returns-3
+returns-3 c =
+    let told = c .before in
+    let played = told .before .before .before .before .before .before in
+    let taken = played .before .before .before .before .before .before .before .before .before .before in
+    let start = taken .before .before .before .before .before .before in
+    let args = start .args in
+    let w = run-of (args .task .run) (args .area .now) in
+    rw (told .enum-told2 .given .1, ← taken .take-apart .ensures .0)
+    (order-stepped w _ (played .play-event .ensures) (omega (arith, start .pre .1)))
+
 pub step-spec : {M : Type 1} → statement M
 step-spec =
     tie.close
@@ -117,6 +142,7 @@ step-spec =
     print-rows-requires
     enum-known-report
     print-decided-requires
+    enum-told-2
     same-length
     same-length-2
     same-length-3
@@ -124,4 +150,7 @@ step-spec =
     same-length-4
     same-length-5
     same-length-6
-    returns-2)
+    returns-2
+    same-length-7
+    same-length-8
+    returns-3)

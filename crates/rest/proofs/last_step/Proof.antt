@@ -16,19 +16,26 @@ use Rattle.rest.proofs.last_step.Tie as tie
 returns : tie.Need-returns
 unfolding reporting
 returns c =
-    let args = c .before .before .before .before .args in
+    let start = c .before .before .before .before in
+    let args = start .args in
     let w = state-of (args .task) (args .area .now) in
-    record { output = output-none reporting w (now (args .rest)) (c .if1 .taken); written = omega arith }
+    record {
+      output = output-none reporting w (now (args .rest)) (c .if1 .taken);
+      written = omega arith;
+      fits = start .pre .1;
+    }
 
 returns-2 : tie.Need-returns-2
 unfolding reporting
 returns-2 c =
-    let args = c .before .before .before .before .before .before .args in
+    let start = c .before .before .before .before .before .before in
+    let args = start .args in
     let w = state-of (args .task) (args .area .now) in
     let over = sym (c .before .goes-on .ensures (args .area .now)) ∙ not-true _ (c .if2 .taken) in
     record {
       output = exhausted reporting w (λ l. ends-steps w l over) (lines (now (args .rest)));
       written = omega arith;
+      fits = start .pre .1;
     }
 
 step-requires : tie.Need-step-requires
@@ -51,6 +58,7 @@ returns-3 c =
           last-played (state-of (args .task) (args .area .now)) (now (args .rest)) (asked .before .before .if1 .left)
           going (start .pre .0) done;
       written = done .most;
+      fits = done .fits;
     }
 
 pub last-step-spec : {M : Type 1} → statement M

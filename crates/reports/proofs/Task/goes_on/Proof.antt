@@ -2,7 +2,7 @@
 use borrow.Author.Needs.{needs}
 use native.Mathlib.Omega.{arith}
 use Rattle.runner.specs.OneLine.{run-of}
-use Rattle.reports.proofs.Laws.{past-last, rows-go, page-goes-on}
+use Rattle.reports.proofs.Laws.{past-last, rows-go, page-goes-on, order-goes}
 use Rattle.reports.proofs.Task.goes_on.Statement.{statement}
 use Rattle.reports.proofs.Task.goes_on.Tie as tie
 
@@ -33,5 +33,16 @@ returns-3 c =
     (page-goes-on (run-of (task .run) area) (omega (arith, told .before .before .if1 .left))
     (told .report .given .0 .0))
 
+enum-told-2 : tie.Need-enum-told-2
+enum-told-2 c = search needs
+
+returns-4 : tie.Need-returns-4
+returns-4 c =
+    λ area.
+    let task = c .before .before .before .before .args .self in
+    rw (c .enum-told2 .given .1) (order-goes (run-of (task .run) area) (omega (arith, c .before .before .if1 .left)))
+
 pub goes-on-spec : {M : Type 1} → statement M
-goes-on-spec = tie.close (tie.spec returns enum-told enum-known-report returns-2 returns-3)
+goes-on-spec =
+    tie.close
+    (tie.spec returns enum-told enum-known-report enum-told-2 returns-2 returns-3 returns-4)
