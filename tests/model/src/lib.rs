@@ -1,6 +1,6 @@
-//! The independent test side: a plain model of `rsmrun` and `rsmpage`, the
-//! ledger, the generators of event files. Written from document 01 and Req
-//! 01, 02, 03, 05 and 06 of document 02 alone.
+//! The independent test side: a plain model of `rsmrun`, `rsmpage` and
+//! `rsmorder`, the ledger, the generators of event files. Written from
+//! document 01 and Req 01, 02, 03, 05, 06 and 07 of document 02 alone.
 #![forbid(unsafe_code)]
 
 pub mod cases;
@@ -12,6 +12,8 @@ pub mod ledger;
 pub mod lines;
 pub mod mixes;
 pub mod module;
+pub mod order;
+pub mod order_check;
 pub mod page;
 pub mod page_check;
 pub mod pieces;

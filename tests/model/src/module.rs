@@ -108,7 +108,7 @@ impl Record {
     }
 
     /// Refusal 12 when this is false.
-    fn sound(&self, shape: &Shape) -> bool {
+    pub(crate) fn sound(&self, shape: &Shape) -> bool {
         let beyond = shape.beyond();
         let mut seen = self.members | self.acknowledged;
         let mut own = 0;
