@@ -1,11 +1,12 @@
 //! The program `cases` of the gate: plays a file of requests on the module
 //! and prints each with its answer. What a request looks like stands at the
 //! head of crates/cases/src/main.rt; what is answered is document 01's, with
-//! Req 01, 02, 03 and 06 of document 02.
+//! Req 01, 02, 03, 06 and 07 of document 02.
 
 use crate::forecast::{self, Forecast};
 use crate::lines;
 use crate::module::{self, Answer, Record, Requester, CUT, DONE, UNCUT};
+use crate::order;
 use std::fmt::Write;
 
 /// The bytes that stand ready; the image lent is the first part of them.
@@ -13,6 +14,8 @@ const ROOM: usize = 36_000;
 /// The length of the longest answer buffer, and what it is filled with.
 const BUFFER: usize = 80;
 const FILL: u8 = 238;
+/// What every mask lent for an order holds.
+const MASK: u16 = 0xEEEE;
 /// The board's place among the numbers.
 const BOARD: usize = 1;
 
@@ -128,6 +131,14 @@ impl Bench {
             }
             b'E' => self.put_forecast(forecast::commit(self.image(), &self.record, second)),
             b'G' => self.put_forecast(forecast::fault(self.image(), &self.record, second)),
+            b'O' => {
+                let mut masks = [MASK; 16];
+                let taken = order::take(self.image(), &self.record, &mut masks);
+                self.put(format_args!(" : {} {}", taken.code, taken.count));
+                for mask in masks {
+                    self.put(format_args!(" {mask:04x}"));
+                }
+            }
             b'D' => {
                 let image = hex(self.image());
                 self.put(format_args!(" : {image}"));

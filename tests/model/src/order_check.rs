@@ -1,8 +1,8 @@
 //! Holds orders (Req 07 of document 02) against their definition and against
 //! the commits that they promise: at random points of an event file, in the
 //! state there, in copies with random rows and tags, in copies whose
-//! components are known, and in spoilt copies; at its end the printed order
-//! too.
+//! components are known, and in spoilt copies; at its end, and at others, the
+//! printed order too.
 
 use crate::lines::{self, Room, LONGEST};
 use crate::module::{self, Answer, Record, Shape, CUT, DONE, TAGS, UNCUT};
@@ -65,8 +65,14 @@ pub fn file(input: &[u8], seed: u64, reached: &mut Reached) -> Result<(), String
     let random = Random::new(seed);
     let mut check = Check { random, reached };
     state::at_points(input, seed, 70, |state| check.point(state))?;
-    let printed = check.printed(input);
-    printed.map_err(|what| format!("after the last line: {what}"))
+    // The whole file, and two beginnings of it, ended anywhere.
+    let few = input.len().min(40);
+    let ends = [few, input.len()].map(|most| check.random.below(most + 1));
+    for end in [input.len(), ends[0], ends[1]] {
+        let printed = check.printed(&input[..end]);
+        printed.map_err(|what| format!("after {end} bytes: {what}"))?;
+    }
+    Ok(())
 }
 
 struct Check<'a> {
@@ -120,7 +126,7 @@ impl Check<'_> {
         Ok(())
     }
 
-    /// The order after the whole file, and what is left unread.
+    /// The order printed after a file, and what is left unread.
     fn printed(&mut self, input: &[u8]) -> Result<(), String> {
         let mut rest = input;
         let mut player = Player::default();

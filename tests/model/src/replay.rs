@@ -1,7 +1,8 @@
 //! The replay files: fixed event files that together reach every situation
-//! of document 01 and of Req 01, 05 and 06 of document 02 that lines can
+//! of document 01 and of Req 01, 05, 06 and 07 of document 02 that lines can
 //! reach.
 
+mod orders;
 mod pages;
 mod straddles;
 
@@ -149,6 +150,7 @@ pub fn all() -> Vec<Replay> {
     large(&mut add);
     pages::add(&mut add);
     straddles::add(&mut add);
+    orders::add(&mut add);
     generated(&mut add);
     files
 }
@@ -233,6 +235,22 @@ pub fn page_run() -> Vec<u8> {
         }
         script.line(format!("A,{other},{}", run(round + 1, context)));
     }
+    script.0.pop();
+    script.0
+}
+
+/// The standard input of the gate's own run of `rsmorder`: links by reads, by
+/// a short write and by a whole overwrite, components of three boards, of two
+/// and of one that wait for higher ones; before them a cut format, a commit
+/// and a fault; and no last line feed.
+pub fn order_run() -> Vec<u8> {
+    let mut script = Script::default();
+    script.lines("Z,9 F,8,4,8,1 U F,8,4,8,1 W,0,0,01 R,3,0,1 C,3,A3 A,0,A0 W,6,24,02 R,7,27,1 X,6");
+    // 1, 4 and 6 in a ring; 2 and 3 bound, and 2 depends on 1.
+    script.lines("W,1,4,11 W,4,16,14 W,6,24,16 R,1,19,1 R,4,24,1 r,6,4,1 R,6,4,1");
+    script.lines("W,3,12,13 W,2,13,12 R,2,4,4");
+    // 7 depends on 5, 5 on 2 and on 4, 0 on 5.
+    script.lines("W,7,28,17181920 W,5,28,15161718 R,5,14,4 R,0,30,1");
     script.0.pop();
     script.0
 }

@@ -1,6 +1,6 @@
 //! What the gate's programs are held against is what the model makes; the
 //! script tests/stored writes it anew.
-use model::{cases, page, player, replay};
+use model::{cases, order, page, player, replay};
 use std::collections::BTreeMap;
 use std::fs;
 use std::path::PathBuf;
@@ -46,6 +46,13 @@ fn input_and_output_of_rsmpage() {
 }
 
 #[test]
+fn input_and_output_of_rsmorder() {
+    let input = replay::order_run();
+    assert!(input == fs::read(crates("rsmorder/stdin")).unwrap());
+    assert!(order::order(&input) == fs::read(crates("rsmorder/stdout")).unwrap());
+}
+
+#[test]
 fn replay_files() {
     let mut stored = BTreeMap::new();
     for entry in fs::read_dir(crates("replay/data")).unwrap() {
@@ -57,7 +64,9 @@ fn replay_files() {
     for file in replay::all() {
         let answers = player::answers(&file.events);
         let page = page::page(&file.events);
+        let order = order::order(&file.events);
         made.insert(format!("{}.page", file.name), page);
+        made.insert(format!("{}.order", file.name), order);
         made.insert(format!("{}.events", file.name), file.events);
         made.insert(format!("{}.answers", file.name), answers);
     }
