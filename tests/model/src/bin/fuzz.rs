@@ -1,9 +1,10 @@
-//! `fuzz RSMRUN RSMPAGE COUNT SEED` compares the programs with the model on
-//! generated files and runs the ledger check, the forecast check, the port
-//! check, the page check and the straddling check on each. Half of the files
-//! go through a pipe, in random pieces. The script `tests/fuzz` calls it.
-use model::{check, forecast_check, generate, page, page_check, pieces, player, port_check};
-use model::{page::MOST_COMMITS, random::Random, straddle_check};
+//! `fuzz RSMRUN RSMPAGE RSMORDER COUNT SEED` compares the programs with the
+//! model on generated files and runs the ledger check, the forecast check, the
+//! port check, the page check, the straddling check and the order check on
+//! each. Half of the files go through a pipe, in random pieces. The script
+//! `tests/fuzz` calls it.
+use model::{check, forecast_check, generate, order, order_check, page, page_check, pieces};
+use model::{page::MOST_COMMITS, player, port_check, random::Random, straddle_check};
 use std::fs::{self, File};
 use std::io::{self, Read, Write};
 use std::path::Path;
@@ -17,9 +18,9 @@ const PATIENCE: Duration = Duration::from_secs(30);
 
 fn main() -> ExitCode {
     let arguments: Vec<String> = env::args().skip(1).collect();
-    let (programs, count, seed): ([&str; 2], u64, u64) = match &arguments[..] {
-        [rsmrun, rsmpage, count, seed] => match (count.parse(), seed.parse()) {
-            (Ok(count), Ok(seed)) if count > 0 => ([rsmrun, rsmpage], count, seed),
+    let (programs, count, seed): ([&str; 3], u64, u64) = match &arguments[..] {
+        [rsmrun, rsmpage, rsmorder, count, seed] => match (count.parse(), seed.parse()) {
+            (Ok(count), Ok(seed)) if count > 0 => ([rsmrun, rsmpage, rsmorder], count, seed),
             _ => return usage(),
         },
         _ => return usage(),
@@ -45,7 +46,7 @@ fn main() -> ExitCode {
 }
 
 fn usage() -> ExitCode {
-    eprintln!("use: fuzz RSMRUN RSMPAGE COUNT SEED, COUNT from 1");
+    eprintln!("use: fuzz RSMRUN RSMPAGE RSMORDER COUNT SEED, COUNT from 1");
     ExitCode::from(2)
 }
 
@@ -57,7 +58,7 @@ struct Played {
 }
 
 /// What was played, or the first difference.
-fn compare(programs: [&str; 2], count: u64, seed: u64, folder: &Path) -> Result<Played, String> {
+fn compare(programs: [&str; 3], count: u64, seed: u64, folder: &Path) -> Result<Played, String> {
     let failed = |error: io::Error| format!("{}: {error}", folder.display());
     fs::create_dir_all(folder).map_err(failed)?;
     let mut lines = 0;
@@ -65,6 +66,7 @@ fn compare(programs: [&str; 2], count: u64, seed: u64, folder: &Path) -> Result<
     let mut ports_reached = port_check::reached();
     let mut pages_reached = page_check::reached();
     let mut straddles_reached = straddle_check::reached();
+    let mut orders_reached = order_check::reached();
     for i in 0..count {
         let file_seed = seed.wrapping_mul(1_000_003).wrapping_add(i);
         let events = match i {
@@ -73,6 +75,8 @@ fn compare(programs: [&str; 2], count: u64, seed: u64, folder: &Path) -> Result<
             // As many commits as a page has, and more: by a pipe and not.
             1 => many_commits(MOST_COMMITS),
             2 | 3 => many_commits(MOST_COMMITS + 1),
+            // The last line that is played makes the last link.
+            4 => last_link(),
             _ => generate::file(file_seed),
         };
         let pieces = match i % 2 {
@@ -80,12 +84,14 @@ fn compare(programs: [&str; 2], count: u64, seed: u64, folder: &Path) -> Result<
             _ => Some(pieces::choose(&mut Random::new(file_seed), events.len())),
         };
         let answers = player::answers(&events);
-        let expected = [answers.clone(), page::page(&events)];
+        let page = page::page(&events);
+        let order = order::order(&events);
         let ledger = check::file(&events);
         let forecasts = forecast_check::file(&events, file_seed, &mut forecasts_reached);
         let ports = port_check::file(&events, file_seed, &mut ports_reached);
         let pages = page_check::file(&events, file_seed, &mut pages_reached);
         let straddles = straddle_check::file(&events, file_seed, &mut straddles_reached);
+        let orders = order_check::file(&events, file_seed, &mut orders_reached);
         let keep = |name: &str, bytes: &[u8]| fs::write(folder.join(name), bytes).map_err(failed);
         let (given, lengths) = match &pieces {
             None => ("", String::new()),
@@ -94,7 +100,9 @@ fn compare(programs: [&str; 2], count: u64, seed: u64, folder: &Path) -> Result<
         let kept = format!("file {i},{given} kept in {}", folder.display());
         keep("file.events", &events)?;
         keep("file.pieces", lengths.as_bytes())?;
-        for (program, expected) in programs.iter().zip(&expected) {
+        let kinds = [Kind::Answers, Kind::Page, Kind::Order];
+        let expected = [&answers, &page, &order];
+        for ((program, kind), expected) in programs.iter().zip(kinds).zip(expected) {
             let input = match &pieces {
                 None => Input::File(&folder.join("file.events")),
                 Some(pieces) => Input::Pipe(events.clone(), pieces.clone()),
@@ -104,7 +112,7 @@ fn compare(programs: [&str; 2], count: u64, seed: u64, folder: &Path) -> Result<
             if got != *expected {
                 keep("file.expected", expected)?;
                 keep("file.got", &got)?;
-                let difference = first_difference(&events, &answers, expected, &got);
+                let difference = first_difference(&events, &answers, kind, expected, &got);
                 return Err(format!("{kept}\n{program} differs\n{difference}"));
             }
         }
@@ -113,11 +121,17 @@ fn compare(programs: [&str; 2], count: u64, seed: u64, folder: &Path) -> Result<
         ports.map_err(|what| format!("{kept}\nports: {what}"))?;
         pages.map_err(|what| format!("{kept}\npages: {what}"))?;
         straddles.map_err(|what| format!("{kept}\nstraddling: {what}"))?;
+        orders.map_err(|what| format!("{kept}\norders: {what}"))?;
     }
-    // So many files reach every situation of the straddling check.
-    let never = straddles_reached.counts().find(|(_, count)| *count == 0);
-    if let (Some((situation, _)), 1000..) = (never, count) {
-        return Err(format!("straddling: never reached: {situation}"));
+    // So many files reach every situation of these two checks.
+    for (name, reached) in [
+        ("straddling", straddles_reached),
+        ("orders", orders_reached),
+    ] {
+        let never = reached.counts().find(|(_, count)| *count == 0);
+        if let (Some((situation, _)), 1000..) = (never, count) {
+            return Err(format!("{name}: never reached: {situation}"));
+        }
     }
     let reached = |names: &[&str]| {
         let counts = pages_reached.counts();
@@ -136,6 +150,14 @@ fn too_many_lines() -> Vec<u8> {
     let mut events = b"F,2,1,2,1\nW,0,0,07\n".to_vec();
     events.extend(b"U\nW,0,1,01\n".repeat(49_996));
     events.extend(b"U\nW,0,1,05\nC,1,06\nZ,1\nX,0\nC,0,07\nR,0,0,1\n");
+    events
+}
+
+/// 100,000 lines; the last one would drop the link of line 99,999.
+fn last_link() -> Vec<u8> {
+    let mut events = b"F,2,1,1,0\n".to_vec();
+    events.extend(b"\n".repeat(99_996));
+    events.extend(b"W,1,0,01\nR,0,0,1\nX,1\n");
     events
 }
 
@@ -224,9 +246,22 @@ fn until_asleep(process: u32) {
     }
 }
 
+/// What a program prints.
+#[derive(Clone, Copy)]
+enum Kind {
+    Answers,
+    Page,
+    Order,
+}
+
 /// The first lines that differ and the event line that they belong to.
-fn first_difference(events: &[u8], answers: &[u8], expected: &[u8], got: &[u8]) -> String {
-    let of_page = answers != expected;
+fn first_difference(
+    events: &[u8],
+    answers: &[u8],
+    kind: Kind,
+    expected: &[u8],
+    got: &[u8],
+) -> String {
     let mut expected_lines = expected.split_inclusive(|byte| *byte == b'\n');
     let mut got_lines = got.split_inclusive(|byte| *byte == b'\n');
     for place in 0.. {
@@ -234,9 +269,10 @@ fn first_difference(events: &[u8], answers: &[u8], expected: &[u8], got: &[u8]) 
         if expected == got && expected.is_some() {
             continue;
         }
-        let answer = match of_page {
-            true => decisions(answers).nth(place),
-            false => expected.or(got),
+        let answer = match kind {
+            Kind::Answers => expected.or(got),
+            Kind::Page => decisions(answers).nth(place),
+            Kind::Order => None,
         };
         let event = match answer.and_then(line_number) {
             None => "no event line".into(),
