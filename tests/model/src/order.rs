@@ -67,9 +67,9 @@ fn in_order(rows: &[u16; 16], boards: usize) -> Vec<u16> {
 /// `[i][j]`: i is j, or a chain of dependences leads from i to j.
 fn chains(rows: &[u16; 16]) -> [[bool; 16]; 16] {
     let mut chains = [[false; 16]; 16];
-    for i in 0..16 {
-        for j in 0..16 {
-            chains[i][j] = i == j || rows[i] >> j & 1 == 1;
+    for (i, chains) in chains.iter_mut().enumerate() {
+        for (j, chain) in chains.iter_mut().enumerate() {
+            *chain = i == j || rows[i] >> j & 1 == 1;
         }
     }
     for through in 0..16 {

@@ -432,13 +432,12 @@ fn defined(record: &Record, shape: &Shape, order: &[u16]) -> Result<(), String> 
     }
     // None that might have come earlier, with a lower lowest board.
     for (at, component) in order.iter().enumerate() {
-        for later in at + 1..order.len() {
+        for (later, next) in order.iter().enumerate().skip(at + 1) {
             let waits = boards.clone().any(|i| {
                 let others = |j: &usize| place[*j] >= at && place[*j] != later;
                 place[i] == later && boards.clone().filter(others).any(|j| reached[i][j])
             });
-            if !waits && order[later].trailing_zeros() < component.trailing_zeros() {
-                let next = order[later];
+            if !waits && next.trailing_zeros() < component.trailing_zeros() {
                 return Err(format!("{next:04X} might come before {component:04X}"));
             }
         }
@@ -511,10 +510,9 @@ impl Run {
         for (block, tag) in first.tags(shape).enumerate() {
             if tag != 0 && tag <= shape.boards {
                 expected[TAGS + block] = 0;
-                let cells = block * shape.size()..(block + 1) * shape.size();
-                for cell in cells {
-                    expected[shape.recovery() + cell] = expected[shape.current() + cell];
-                }
+                let at = shape.current() + block * shape.size();
+                let kept = shape.recovery() + block * shape.size();
+                expected.copy_within(at..at + shape.size(), kept);
             }
         }
         let contexts = shape.recovery() + shape.cells();
@@ -523,8 +521,11 @@ impl Run {
         expected.extend([&given[..], &given[..]].concat());
         // Bytes 10 and 11 may be any.
         expected[10..12].copy_from_slice(&self.now.image[10..12]);
-        let differ = (0..expected.len()).find(|at| self.now.image.get(*at) != expected.get(*at));
-        agree("a byte that differs at the end", differ, None)?;
-        agree("length at the end", self.now.image.len(), expected.len())
+        if self.now.image == expected {
+            return Ok(());
+        }
+        let pairs = self.now.image.iter().zip(&expected);
+        let same = pairs.take_while(|(now, expected)| now == expected).count();
+        Err(format!("byte {same} of the image differs at the end"))
     }
 }
