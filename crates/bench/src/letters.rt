@@ -39,6 +39,9 @@ pub const COMMIT_FORECAST: u8 = b'E';
 // Its fault forecast.
 pub const FAULT_FORECAST: u8 = b'G';
 
+// The boards' order.
+pub const ORDER: u8 = b'O';
+
 // How long the image is that is lent.
 pub const LENGTH: u8 = b'L';
 

@@ -80,6 +80,25 @@ fn forecast_line(image: &[u8], state: Record, r: Request) {
     io::write_all(1, b"\n");
 }
 
+fn masks_line(masks: [u16; 16]) {
+    for x in 0..16 {
+        let mask = masks[x];
+        io::write_all(1, b" ");
+        io::print_hex(1, mask as u64, 4);
+    }
+    io::write_all(1, b"\n");
+}
+
+// The order: status, count, all masks that were lent.
+fn order_line(image: &[u8], state: Record) {
+    let mut masks = [61166u16; 16];
+    let answer = order::order(image, state, &mut masks);
+    io::write_all(1, b" :");
+    tell::number(answer.status as u64);
+    tell::number(answer.count as u64);
+    masks_line(masks);
+}
+
 // A line that is no call of the module but for Context and Same, and leaves the record.
 fn other_line(area: &mut [u8], n: usize, r: Request)
     requires { ⌜ (144000 ≤ length (now area)) × (n ≤ 36000) ⌝ }
@@ -158,6 +177,10 @@ fn play_request(area: &mut [u8], n: usize, r: Request, state: Record, shown: boo
     }
     if r.letter == letters::COMMIT_FORECAST || r.letter == letters::FAULT_FORECAST {
         forecast_line(&area[0..n], state, r);
+        return state;
+    }
+    if r.letter == letters::ORDER {
+        order_line(&area[0..n], state);
         return state;
     }
     let letter = whole(r.letter);

@@ -19,6 +19,7 @@
 //                           R, W and w with the word `port` for the board: by the port
 //   E,0,board               the commit forecast: status, group, stores
 //   G,0,board               the fault forecast, likewise
+//   O,0                     the boards' order: status, count, and the sixteen masks that were lent as hexadecimal eeee
 //   K,0,board               context
 //   S,0                     same: the image and the remembered one
 //   M,0                     remember the image
@@ -53,7 +54,7 @@ fn play(text: &[u8], area: &mut [u8])
 }
 
 fn main() {
-    let mut text = [0u8; 32768];
+    let mut text = [0u8; 65536];
     let mut area = [0u8; 144000];
     let n = io::read_full(0, &mut text);
     play(&text[0..n], &mut area);

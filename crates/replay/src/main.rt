@@ -176,8 +176,8 @@ fn play_name(path: &mut [u8], n: usize, size: usize, task: Task, ending: &[u8]) 
     as_expected(all, &path[0..last])
 }
 
-// Whether answers, page and order are as expected.
-fn play_all(path: &mut [u8], n: usize, size: usize) -> bool
+// Whether both answers and page are as expected.
+fn play_both(path: &mut [u8], n: usize, size: usize) -> bool
     requires { ⌜ (n ≤ length (now path)) × (1 ≤ size) × (size ≤ 8192) ⌝ }
 {
     let rows = Task::rows();
@@ -185,7 +185,14 @@ fn play_all(path: &mut [u8], n: usize, size: usize) -> bool
         return false;
     }
     let page = Task::page();
-    if !play_name(path, n, size, page, b".page") {
+    play_name(path, n, size, page, b".page")
+}
+
+// Whether these and the order are.
+fn play_all(path: &mut [u8], n: usize, size: usize) -> bool
+    requires { ⌜ (n ≤ length (now path)) × (1 ≤ size) × (size ≤ 8192) ⌝ }
+{
+    if !play_both(path, n, size) {
         return false;
     }
     let order = Task::order();

@@ -19,8 +19,8 @@ loop-holds c = (refl, omega arith)
 size-of-requires : tie.Need-size-of-requires Inv-loop μ-loop
 size-of-requires c κs = tt
 
-play-both-requires : tie.Need-play-both-requires Inv-loop μ-loop
-play-both-requires c κs = search needs
+play-all-requires : tie.Need-play-all-requires Inv-loop μ-loop
+play-all-requires c κs = search needs
 
 same-length : tie.Need-same-length Inv-loop μ-loop
 same-length c = search needs
@@ -51,7 +51,7 @@ play-sizes-spec =
     μ-loop
     loop-holds
     size-of-requires
-    play-both-requires
+    play-all-requires
     same-length
     returns
     add-i
