@@ -56,28 +56,36 @@ has-some g small e =
 
 -- ---- the lowest number
 
+-- 0 if the test holds there, else the lowest number behind it
+module _ (n : ℕ) (p : ℕ → Bool) where
+  lowest-here : p 0 ≡ true → lowest (suc n) p ≡ 0
+  unfolding lowest
+  lowest-here e = rw e
+
+  lowest-later : p 0 ≡ false → lowest (suc n) p ≡ suc (lowest n (λ i. p (suc i)))
+  unfolding lowest
+  lowest-later e = rw e
+
 pub lowest-holds : (n : ℕ) (p : ℕ → Bool) (i : ℕ) → i < n → p i ≡ true → (lowest n p < n) × (p (lowest n p) ≡ true)
-unfolding lowest
 lowest-holds zero p i l e = absurd (omega arith)
-lowest-holds (suc n) p i l e = go (lowest n (λ i. p (suc i))) (p 0) refl i l e (lowest-holds n (λ i. p (suc i)))
-  where
-    go : (later : ℕ) (b : Bool) → p 0 ≡ b → (i : ℕ) → i < suc n → p i ≡ true
-        → ((i : ℕ) → i < n → p (suc i) ≡ true → (later < n) × (p (suc later) ≡ true))
-        → (cond b 0 (suc later) < suc n) × (p (cond b 0 (suc later)) ≡ true)
-    go later true z i l e rest = (omega arith, z)
-    go later false z zero l e rest = clash e z
-    go later false z (suc i) l e rest = let r = rest i (omega arith) e in (omega (arith, r .0), r .1)
+lowest-holds (suc n) p zero l e = rw (lowest-here n p e) (omega arith, e)
+lowest-holds (suc n) p (suc i) l e =
+    ⊎-elim
+    (λ (z : p 0 ≡ true). rw (lowest-here n p z) (omega arith, z))
+    (λ (z : p 0 ≡ false).
+    let rest = lowest-holds n (λ i. p (suc i)) i (omega arith) e in
+    rw (lowest-later n p z) (omega (arith, rest .0), rest .1))
+    (decide (p 0))
 
 pub lowest-least : (n : ℕ) (p : ℕ → Bool) (i : ℕ) → p i ≡ true → lowest n p ≤ i
 unfolding lowest
 lowest-least zero p i e = omega arith
-lowest-least (suc n) p i e = go (lowest n (λ i. p (suc i))) (p 0) refl i e (lowest-least n (λ i. p (suc i)))
-  where
-    go : (later : ℕ) (b : Bool) → p 0 ≡ b → (i : ℕ) → p i ≡ true → ((i : ℕ) → p (suc i) ≡ true → later ≤ i)
-        → cond b 0 (suc later) ≤ i
-    go later true z i e rest = omega arith
-    go later false z zero e rest = clash e z
-    go later false z (suc i) e rest = omega (arith, rest i e)
+lowest-least (suc n) p zero e = rw (lowest-here n p e) (omega arith)
+lowest-least (suc n) p (suc i) e =
+    ⊎-elim
+    (λ (z : p 0 ≡ true). rw (lowest-here n p z) (omega arith))
+    (λ (z : p 0 ≡ false). rw (lowest-later n p z) (omega (arith, lowest-least n (λ i. p (suc i)) i e)))
+    (decide (p 0))
 
 -- ---- components and boards that may go next
 
