@@ -307,15 +307,23 @@ module _ {p : ℕ} (most : p ≤ 16) {d : Links} (b : Bounded p d) where
   pub all-back : Backward (has (all-boards p)) d
   all-back = record { onto = λ x y h e. has-all x ∙ lt-ltb x p (b .ends x y e .0) }
 
--- there are p of them at most
-pub all-few : (p n : ℕ) → count n (λ j. ltb j p) ≤ p
+-- there are p of them
+lower-counted : (p n : ℕ) → n ≤ p → count n (λ j. ltb j p) ≡ n
 unfolding count
-all-few p zero = omega arith
-all-few p (suc n) =
+lower-counted p zero l = refl
+lower-counted p (suc n) l = rw (lt-ltb n p (omega arith)) (omega (arith, lower-counted p n (omega arith)))
+
+pub all-counted : (p n : ℕ) → p ≤ n → count n (λ j. ltb j p) ≡ p
+unfolding count
+all-counted p zero l = lower-counted p 0 (omega arith) ∙ omega arith
+all-counted p (suc n) l =
     ⊎-elim
-    (λ (l : n < p). rw (lt-ltb n p l) (omega (arith, count-le n (λ j. ltb j p))))
-    (λ (l : p ≤ n). rw (le-ltb n p l) (omega (arith, all-few p n)))
+    (λ (k : n < p). lower-counted p (suc n) (omega arith) ∙ omega arith)
+    (λ (k : p ≤ n). more-counted p n k (all-counted p n k))
     (below-or n p)
+  where
+    more-counted : (p n : ℕ) → p ≤ n → count n (λ j. ltb j p) ≡ p → count (suc n) (λ j. ltb j p) ≡ p
+    more-counted p n k e = rw (le-ltb n p k) (omega arith)
 
 -- a record that passes test 12 has dependences among the boards below P alone
 pub record-bounded : (p : ℕ) (r : Record) → bad-record p r ≡ false → Sixteen-boards r → Bounded p (depends r)
@@ -334,7 +342,7 @@ unfolding order
 order-right p r most e sixteen =
     let b = record-bounded p r e sixteen in
     let all : has (all-boards p) ≡ (λ j. ltb j p) = fun-ext (has-all most b) in
-    let few : count 16 (has (all-boards p)) ≤ p = subst (λ q. count 16 q ≤ p) (sym all) (all-few p 16) in
+    let few : count 16 (has (all-boards p)) ≤ p = omega (arith, ap (count 16) all, all-counted p 16 most) in
     subst (λ q. Orders (depends r) q (order-from (depends r) p (all-boards p))
     × ((sets : List ℕ) → Orders (depends r) q sets → sets ≡ order-from (depends r) p (all-boards p)))
     all (from-right (bounded-more b most) p (mask-below 16 _) (all-back most b) few)

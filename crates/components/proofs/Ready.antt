@@ -15,7 +15,7 @@ use Rattle.boards.proofs.Groups.{has-mask, has-below, has-ext, has-none, mask-b
 use Rattle.boards.proofs.Groups.{count-some}
 use Rattle.boards.proofs.Groups.{Bounded, Backward, chain-join, backward-chain, in-commit-group, in-fault-group}
 use Rattle.boards.proofs.Groups.{commit-group-self, commit-group-small}
-use Rattle.components.specs.Components.{common, component, ready, lowest}
+use Rattle.components.specs.Components.{intersection, component, ready, lowest}
 
 -- ---- sets
 
@@ -126,7 +126,7 @@ module _ {d : Links} (b : Bounded 16 d) where
     ready-says i e =
         let both = and-true (has left i) _ e in
         let l = left-below (both .0) in
-        let same = eqb-true (common (commit-group d i) left) (component d i) (both .1) in
+        let same = eqb-true (intersection (commit-group d i) left) (component d i) (both .1) in
         record {
           stays = both .0;
           mutual-with = λ j c y.
@@ -141,8 +141,8 @@ module _ {d : Links} (b : Bounded 16 d) where
         let l = left-below (r .stays) in
         let inside : ℕ → Bool = λ j. has (commit-group d i) j && has left j in
         true-and (r .stays)
-        (eq-eqb (common (commit-group d i) left) (component d i)
-        (has-ext 16 (common (commit-group d i) left) (component d i) (mask-below 16 inside) (component-small i)
+        (eq-eqb (intersection (commit-group d i) left) (component d i)
+        (has-ext 16 (intersection (commit-group d i) left) (component d i) (mask-below 16 inside) (component-small i)
         (λ j k. test-ext _ _
         (λ y.
         let s = and-true (has (commit-group d i) j) _ (set-has inside j y .1) in

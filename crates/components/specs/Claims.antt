@@ -20,24 +20,24 @@ abbrev pub Depends-before : Links → List ℕ → ℕ → ℕ → Type 0
 Depends-before d sets x y =
     (i j z : ℕ) → has (at sets y) i ≡ true → Chain d i j → has (at sets z) j ≡ true → (z < x) ⊎ (z ≡ y)
 
--- The sets are the strongly connected components of the boards of which `p` holds, in the order in which they commit.
-pub record Orders (d : Links) (p : ℕ → Bool) (sets : List ℕ) : Type 0 where
+-- The sets are the strongly connected components of the boards of which `board` holds, in the order in which they commit.
+pub record Orders (d : Links) (board : ℕ → Bool) (sets : List ℕ) : Type 0 where
   -- none is empty
   pub some : (x : ℕ) → x < length sets → (j : ℕ) × (has (at sets x) j ≡ true)
-  -- each board of p stands in exactly one of them, no other board in any
-  pub each : (j : ℕ) → p j ≡ true → (x : ℕ) × (has (at sets x) j ≡ true)
+  -- each board stands in exactly one of them, no other board in any
+  pub each : (j : ℕ) → board j ≡ true → (x : ℕ) × (has (at sets x) j ≡ true)
   pub once : (x y j : ℕ) → has (at sets x) j ≡ true → has (at sets y) j ≡ true → x ≡ y
-  pub no-other : (x j : ℕ) → has (at sets x) j ≡ true → p j ≡ true
-  -- two boards of p are in one of them exactly when chains lead both ways
-  pub connected : (x i j : ℕ) → has (at sets x) i ≡ true → p j ≡ true
+  pub no-other : (x j : ℕ) → has (at sets x) j ≡ true → board j ≡ true
+  -- two boards are in one of them exactly when chains lead both ways
+  pub connected : (x i j : ℕ) → has (at sets x) i ≡ true → board j ≡ true
       → (has (at sets x) j ≡ true) ↔ (Chain d i j × Chain d j i)
   -- each comes after all that it depends on
   pub after : (x y i j : ℕ) → has (at sets x) i ≡ true → has (at sets y) j ≡ true → Chain d i j → y ≤ x
-  -- and has a lower board than any later one that might stand in its place
+  -- and its lowest board is below that of any later one that might stand in its place
   pub lowest-first : (x y j : ℕ) → x < y → Depends-before d sets x y → has (at sets y) j ≡ true
       → (i : ℕ) × (has (at sets x) i ≡ true) × (i < j)
 
--- dependences among sixteen boards only, as rows of sixteen bits can say them
+-- dependences among sixteen boards only, as every record of the code has them: sixteen rows of sixteen bits
 abbrev pub Sixteen-boards : Record → Type 0
 Sixteen-boards r = (a b : ℕ) → depends r a b ≡ true → (a < 16) × (b < 16)
 

@@ -7,26 +7,26 @@ use Rattle.boards.specs.Boards.{has, setOf, Links, commit-group, fault-group}
 use Rattle.boards.specs.Rows.{minus}
 
 -- the boards of both g and h
-abbrev pub common : ℕ → ℕ → ℕ
-common g h = setOf (λ j. has g j && has h j)
+abbrev pub intersection : ℕ → ℕ → ℕ
+intersection g h = setOf (λ j. has g j && has h j)
 
 -- The strongly connected component of board i, document 02's "circle": i and all that it depends on and that depend on
 -- it, through any chains.
 unfoldable pub component : Links → ℕ → ℕ
-component d i = common (commit-group d i) (fault-group d i)
+component d i = intersection (commit-group d i) (fault-group d i)
 
--- Board i may go next if those of `left` are left: it is one of them, and its commit group, without the boards that are
--- gone, is its component.
+-- Board i may go next while the boards of `left` are left: it is one of them, and its commit group, without the boards
+-- that are gone, is its component.
 unfoldable pub ready : Links → ℕ → ℕ → Bool
-ready d left i = has left i && eqb (common (commit-group d i) left) (component d i)
+ready d left i = has left i && eqb (intersection (commit-group d i) left) (component d i)
 
 -- the lowest number below n of which p holds; n if there is none
 unfoldable pub lowest : ℕ → (ℕ → Bool) → ℕ
 lowest zero p = 0
 lowest (suc n) p = cond (p 0) 0 (suc (lowest n (λ i. p (suc i))))
 
--- The components of the boards of `left` in their order, by recursion on the number n of boards left at most: while
--- there are any, the lowest that may go next goes with its component.
+-- The components of the boards of `left` in their order, by recursion on n, which is at least the number of boards left:
+-- while there are any, the lowest that may go next goes with its component.
 unfoldable pub order-from : Links → ℕ → ℕ → List ℕ
 order-from d zero left = []
 order-from d (suc n) left =

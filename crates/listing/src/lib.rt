@@ -9,7 +9,7 @@ ghost use lib.ListN.{length, take};
 ghost use Rattle.digits.specs.Append.{Appends};
 ghost use Rattle.listing.specs.Listing.{component-lines, order-text};
 
-// A line for each of the first masks.
+// A line for each of the first `count` masks.
 fn put_lines(out: &mut [u8], at: usize, masks: [u16; 16], count: usize) -> usize
     requires { ⌜ (count ≤ 16) × (at + 5 * count ≤ length (now out)) ⌝ }
     ensures { λ r. ⌜ Appends (component-lines (take count masks)) at (now (out .entry)) r (now (out .exit)) ⌝ }

@@ -8,7 +8,7 @@ use lib.Dec.{eqb, ltb, leb}
 use lib.ListN.{length, drop}
 use native.Mathlib.Omega.{arith}
 use native.Mathlib.Nat.{zero-add}
-use borrow.Author.Tests.{eq-eqb, ne-eqb, lt-leb}
+use borrow.Author.Tests.{eq-eqb, ne-eqb, eqb-true, eqb-false, lt-leb}
 use Rattle.boards.specs.Boards.{has, Links}
 use Rattle.boards.specs.Rows.{links-of, minus}
 use Rattle.boards.proofs.Basics.{decide}
@@ -17,13 +17,16 @@ use Rattle.boards.proofs.Masks.{Sixteen}
 use Rattle.volatile.specs.Volatile.{depends, engaged, bad-record}
 use Rattle.volatile.specs.declared.Record.{Record}
 use Rattle.components.specs.Components.{component, ready, lowest, order-from, all-boards, order}
-use Rattle.components.proofs.Orders.{record-bounded, has-all, all-back, all-few}
+use Rattle.components.proofs.Orders.{record-bounded, has-all, all-back, all-counted}
 use Rattle.protocol.specs.Image.{in-order, shape-of}
-use Rattle.protocol.specs.Calls.{first, entry-tests, filled}
+use Rattle.protocol.specs.Calls.{Test, test, first, entry-tests, filled}
 use Rattle.protocol.specs.declared.Shape.{Shape}
 use Rattle.protocol.proofs.Bridge.{limits, order-sound}
-use Rattle.protocol.proofs.Refusals.{entered}
+use Rattle.protocol.proofs.Refusals.{entered, first-held, first-passed, first-stops, entry-goes-on}
+use Rattle.costs.specs.Forecasts.{commit-tests, commit-forecast}
+use Rattle.costs.proofs.Answers.{answered-status}
 use Rattle.order.specs.Call.{order-tests, order-status, components, Answers-order, With-dependents, Put-from}
+use Rattle.order.specs.Claims.{Refused-as-forecast}
 use Rattle.order.specs.declared.Ordered.{Ordered}
 use Rattle.order.proofs.Next.{rows-bounded}
 
@@ -44,18 +47,21 @@ module _ (image : List ℕ) (r : Record) where
       (λ (e : in-order 0 image ≡ false). rw e)
       (decide (in-order 0 image))
 
+  -- the last one: whether a commit is open
+  abbrev open-test : List Test
+  open-test = test (not (eqb (engaged r) 0)) 14 ∷ []
+
   module _ (passes : first (entry-tests image r 0) ≡ 0) where
-    pub commit-open : engaged r ≢ 0 → order-status image r ≡ 14
+    goes-on : order-status image r ≡ first open-test
     unfolding first
-    commit-open e =
-        let h = entered image r 0 refl passes in
-        rw (h .ordered, h .recorded, ne-eqb (engaged r) 0 e)
+    goes-on = let h = entered image r 0 refl passes in rw (h .ordered, h .recorded)
+
+    pub commit-open : engaged r ≢ 0 → order-status image r ≡ 14
+    commit-open e = goes-on ∙ first-held 14 [] (ap not (ne-eqb (engaged r) 0 e))
 
     pub all-passed : engaged r ≡ 0 → order-status image r ≡ 0
     unfolding first
-    all-passed e =
-        let h = entered image r 0 refl passes in
-        rw (h .ordered, h .recorded, eq-eqb (engaged r) 0 e)
+    all-passed e = goes-on ∙ first-passed 14 [] (ap not (eq-eqb (engaged r) 0 e))
 
   -- ---- the answer
 
@@ -80,7 +86,7 @@ module _ (image : List ℕ) (r : Record) (rows : Sixteen (r .rows)) {s : Shape} 
 
     pub few-boards : count 16 (has (all-boards (s .boards))) ≤ s .boards
     few-boards =
-        subst (λ q. count 16 q ≤ s .boards) (sym (fun-ext (has-all most bounded))) (all-few (s .boards) 16)
+        omega (arith, ap (count 16) (fun-ext (has-all most bounded)), all-counted (s .boards) 16 most)
 
     pub taken-so : {n : ℕ} {a : Ordered} {masks after : List ℕ} → order-status image r ≡ 0
         → Put-from (links-of (r .rows)) (all-boards (s .boards)) 0 masks n after
@@ -119,3 +125,19 @@ few-components image r =
     either-long (eqb (order-status image r) 0) (order p (depends r)) [] 16 (omega arith) (omega arith))
     (λ (e : in-order 0 image ≡ false). rw e (omega arith))
     (decide (in-order 0 image))
+
+-- ---- the refusals of a commit forecast
+
+pub refused-as-forecast : Refused-as-forecast
+unfolding commit-forecast
+refused-as-forecast image r =
+    let entry = entry-tests image r 0 in
+    let told = answered-status (first (commit-tests image r 0)) _ _ in
+    ⊎-elim
+    (λ (z : eqb (first entry) 0 ≡ true).
+    let passes = eqb-true (first entry) 0 z in
+    goes-on image r passes ∙ sym (told ∙ entry-goes-on image r 0 (open-test image r) passes))
+    (λ (z : eqb (first entry) 0 ≡ false).
+    let stops = eqb-false (first entry) 0 z in
+    entry-stops image r stops ∙ sym (told ∙ first-stops entry (open-test image r) stops))
+    (decide (eqb (first entry) 0))

@@ -16,15 +16,15 @@ use Rattle.boards.specs.Rows.{links-of}
 use Rattle.boards.proofs.Basics.{decide, clash, true-and, false-and, and-false, if-true, if-false, refute}
 use Rattle.boards.proofs.Groups.{below-or, has-below, has-small, has-zero, Bounded, Backward}
 use Rattle.boards.proofs.Masks.{has-and, has-not, mask-told, Sixteen}
-use Rattle.components.specs.Components.{common, component, ready, lowest, all-boards}
+use Rattle.components.specs.Components.{intersection, component, ready, lowest, all-boards}
 use Rattle.components.proofs.Ready.{component-self, lowest-holds, lowest-least}
 use Rattle.components.proofs.Ready as next
 use Rattle.order.specs.Call.{With-dependents}
 
 -- ---- sets
 
-pub and-common : (g h : ℕ) → g < 2 ^ 16 → h < 2 ^ 16 → bitAnd g h ≡ common g h
-and-common g h s t = mask-told 16 _ _ (and-lt 16 g h s t) (λ j l. has-and g h j)
+pub and-intersection : (g h : ℕ) → g < 2 ^ 16 → h < 2 ^ 16 → bitAnd g h ≡ intersection g h
+and-intersection g h s t = mask-told 16 _ _ (and-lt 16 g h s t) (λ j l. has-and g h j)
 
 -- sixteen ones without the last 16 - p are the boards below p
 pub ones-shift : (p : ℕ) → p ≤ 16 → 65535 / 2 ^ (16 - p) ≡ all-boards p
@@ -51,29 +51,29 @@ module _ (d : Links) (left i : ℕ) where
   unfolding ready
   not-left e = sym (if-false (component d i) 0 (false-and _ e))
 
-  module _ {ahead own some : ℕ} (e : ahead ≡ commit-group d i) (f : own ≡ common ahead (fault-group d i))
-      (g : some ≡ common ahead left)
+  module _ {ahead own some : ℕ} (e : ahead ≡ commit-group d i) (f : own ≡ intersection ahead (fault-group d i))
+      (g : some ≡ intersection ahead left)
     where
       own-is : own ≡ component d i
       unfolding component
-      own-is = f ∙ ap (λ x. common x (fault-group d i)) e
+      own-is = f ∙ ap (λ x. intersection x (fault-group d i)) e
 
-      some-is : some ≡ common (commit-group d i) left
-      some-is = g ∙ ap (λ x. common x left) e
+      some-is : some ≡ intersection (commit-group d i) left
+      some-is = g ∙ ap (λ x. intersection x left) e
 
       pub not-ready : some ≢ own → 0 ≡ answer
       unfolding ready
       not-ready q =
           sym (if-false (component d i) 0
           (and-false (has left i)
-          (ne-eqb (common (commit-group d i) left) (component d i) (λ same. q (some-is ∙ same ∙ sym own-is)))))
+          (ne-eqb (intersection (commit-group d i) left) (component d i) (λ same. q (some-is ∙ same ∙ sym own-is)))))
 
       pub is-ready : has left i ≡ true → some ≡ own → own ≡ answer
       unfolding ready
       is-ready h q =
           own-is
           ∙ sym (if-true (component d i) 0
-          (true-and h (eq-eqb (common (commit-group d i) left) (component d i) (sym some-is ∙ q ∙ own-is))))
+          (true-and h (eq-eqb (intersection (commit-group d i) left) (component d i) (sym some-is ∙ q ∙ own-is))))
 
 -- ---- the first that may go next
 

@@ -40,7 +40,8 @@ pub record Answers-order (image : List ℕ) (r : Record) (masks : List ℕ) (a :
 abbrev pub With-dependents : Links → ℕ → Type 0
 With-dependents d left = (a b : ℕ) → has left b ≡ true → d a b ≡ true → has left a ≡ true
 
--- the order of the boards left is put from place `at` on, and ends at r; the other masks stay
+-- the order of the boards left is put from place `at` on, and ends at r, whatever bound n the recursion is given; the
+-- other masks stay
 pub record Put-from (d : Links) (left at : ℕ) (before : List ℕ) (r : ℕ) (after : List ℕ) : Type 0 where
   pub end : (n : ℕ) → count 16 (has left) ≤ n → r ≡ at + length (order-from d n left)
   pub masks : (n : ℕ) → count 16 (has left) ≤ n

@@ -14,18 +14,18 @@ ghost use lib.ListN.{length};
 ghost use Rattle.boards.specs.Lists.{count};
 ghost use Rattle.boards.specs.Boards.{has};
 ghost use Rattle.boards.specs.Rows.{links-of};
-ghost use Rattle.components.specs.Components.{common, component, ready, lowest, all-boards};
+ghost use Rattle.components.specs.Components.{intersection, component, ready, lowest, all-boards};
 ghost use Rattle.order.specs.Call.{Answers-order, With-dependents, Put-from};
 
-// 0 or the number of the refusal; how many components there are.
+// 0 or the number of the refusal; how many components there are, 0 if refused.
 pub struct Ordered {
     pub status: u8,
     pub count: usize,
 }
 
 // The boards of both g and h.
-fn common(g: u16, h: u16) -> u16
-    ensures { λ r. ⌜ r ≡ common g h ⌝ }
+fn intersection(g: u16, h: u16) -> u16
+    ensures { λ r. ⌜ r ≡ intersection g h ⌝ }
 {
     g & h
 }
@@ -38,10 +38,10 @@ fn ready_component(rows: [u16; 16], left: u16, i: u8) -> u16
     if !sets::has(left, i) {
         return 0;
     }
-    let ahead = commit_closure(rows, i);
-    let behind = fault_closure(rows, i);
-    let own = common(ahead.members, behind.members);
-    if common(ahead.members, left) != own {
+    let needed = commit_closure(rows, i);
+    let dependents = fault_closure(rows, i);
+    let own = intersection(needed.members, dependents.members);
+    if intersection(needed.members, left) != own {
         return 0;
     }
     own
@@ -60,6 +60,7 @@ fn next_component(rows: [u16; 16], left: u16) -> u16
         }
         i += 1;
     }
+    // Not reached: some board left may go next.
     0
 }
 
@@ -95,10 +96,11 @@ fn refused(n: u8) -> Ordered
     }
 }
 
-// Refused 11, 12, 14. The masks from the count on stay as they were.
+// Refused 11, 12, 14, and then all masks stay; else those from the count on do.
 pub fn order(image: &[u8], state: Record, masks: &mut [u16; 16]) -> Ordered
     ensures { λ r. ⌜ Answers-order (now (image .entry)) state (now (masks .entry)) r (now (masks .exit)) ⌝ }
 {
+    // Board 0 is below P in every header in order: 1 is never answered.
     let entry = enter(image, state, 0);
     let Entry::Taken(s) = entry else {
         return refused(entry.number());

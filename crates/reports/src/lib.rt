@@ -1,5 +1,5 @@
-// What a program prints of the lines that it plays: their rows, as `rsmrun` does, a page, as `rsmpage` does, or behind
-// the last the boards' order, as `rsmorder` does. A line is played in one way, whatever is printed of it.
+// What a program prints of the lines that it plays: their rows, as `rsmrun` does, a page, as `rsmpage` does, or, after
+// the last line, the boards' order, as `rsmorder` does. A line is played in one way, whatever is printed of it.
 use events::take_apart;
 use listing::put_order;
 use page::Decided;

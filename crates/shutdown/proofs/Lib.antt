@@ -1,3 +1,4 @@
 pub mod Runs
+pub mod Times
 pub mod Member
 pub mod Shutdown

@@ -38,7 +38,8 @@ use Rattle.costs.proofs.Given.{all-stores, all-next, all-length, all-answer, ac
 use Rattle.costs.proofs.Completes.{In-order, done-leaves, acknowledge-taken}
 use Rattle.shutdown.specs.Shutdown.{times, In-any-order, answer-due, call-due}
 use Rattle.shutdown.specs.Shutdown.{acknowledgements-due, commit-due}
-use Rattle.shutdown.proofs.Runs.{Leads, leads-none, leads-more, times-head, times-other}
+use Rattle.shutdown.proofs.Runs.{Leads, leads-none, leads-more}
+use Rattle.shutdown.proofs.Times.{times-head, times-other}
 
 -- an allowance that does not suffice for the stores that are due
 abbrev pub short : Answered-call → Bool

@@ -1,4 +1,4 @@
--- Calls made one after the other, and lists in which each board stands once.
+-- Calls made one after the other.
 use Prim.Native.Nat.{ℕ, zero, suc, _+_}
 use mathlib.Core.Path.{_≡_, refl, sym, _∙_, ap}
 use mathlib.Core.Bool.{Bool, true, false, _&&_, _||_, not, cond}
@@ -13,14 +13,14 @@ use Rattle.protocol.specs.Calls.{Request, perform}
 use Rattle.protocol.specs.Claim.{Call}
 use Rattle.costs.specs.Claims.{Answered-call, played}
 use Rattle.costs.proofs.Opened.{called}
-use Rattle.shutdown.specs.Shutdown.{times, call-of, left-by}
+use Rattle.shutdown.specs.Shutdown.{times, call-of, end-of}
 
 -- The calls of a list are answered as is due and lead from one image and record to another, whatever follows them.
 pub record Leads (image : List ℕ) (r : Record) (due : List Answered-call) (image′ : List ℕ) (r′ : Record) : Type 0
   where
     pub answers : (more : List Call)
         → played image r (map call-of due ++ more) ≡ due ++ played image′ r′ more
-    pub ends : (more : List Call) → left-by image r (map call-of due ++ more) ≡ left-by image′ r′ more
+    pub ends : (more : List Call) → end-of image r (map call-of due ++ more) ≡ end-of image′ r′ more
 
 module _ {image : List ℕ} {r : Record} where
   pub leads-none : Leads image r [] image r
@@ -32,7 +32,7 @@ module _ {image : List ℕ} {r : Record} where
       → Leads (perform image r (x .request) (x .k) .image) (perform image r (x .request) (x .k) .reply .next) due
       image′ r′
       → Leads image r (x ∷ due) image′ r′
-  unfolding played left-by
+  unfolding played end-of
   leads-more x {due} e rest =
       let o = perform image r (x .request) (x .k) in
       record {
@@ -50,7 +50,7 @@ leads-then {image} {image″ = image″} {r} {r″ = r″} {xs} {ys} p q =
       answers = λ more.
           ap (played image r) (calls more) ∙ p .answers (map call-of ys ++ more) ∙ ap (λ l. xs ++ l) (q .answers more)
           ∙ sym (append-assoc xs ys (played image″ r″ more));
-      ends = λ more. ap (left-by image r) (calls more) ∙ p .ends (map call-of ys ++ more) ∙ q .ends more;
+      ends = λ more. ap (end-of image r) (calls more) ∙ p .ends (map call-of ys ++ more) ∙ q .ends more;
     }
   where
     calls : (more : List Call) → map call-of (xs ++ ys) ++ more ≡ map call-of xs ++ (map call-of ys ++ more)
@@ -63,19 +63,9 @@ module _ {image image′ : List ℕ} {r r′ : Record} {due : List Answered-call
   unfolding played
   leads-all = ap (played image r) (sym (append-nil (map call-of due))) ∙ p .answers [] ∙ append-nil due
 
-  pub leads-end : left-by image r (map call-of due) ≡ record { image = image′; state = r′ }
-  unfolding left-by
-  leads-end = ap (left-by image r) (sym (append-nil (map call-of due))) ∙ p .ends []
-
--- ---- how often a board is in a list
-
-pub times-head : (i : ℕ) (is : List ℕ) → times i (i ∷ is) ≡ suc (times i is)
-unfolding times
-times-head i is = rw (eqb-same i) (omega arith)
-
-pub times-other : (i j : ℕ) (is : List ℕ) → eqb i j ≡ false → times j (i ∷ is) ≡ times j is
-unfolding times
-times-other i j is e = rw e (omega arith)
+  pub leads-end : end-of image r (map call-of due) ≡ record { image = image′; state = r′ }
+  unfolding end-of
+  leads-end = ap (end-of image r) (sym (append-nil (map call-of due))) ∙ p .ends []
 
 -- a test over two lists
 pub any-both : {X : Type 0} (p : X → Bool) (xs ys : List X) → anyOf p (xs ++ ys) ≡ false

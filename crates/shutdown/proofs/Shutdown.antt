@@ -1,11 +1,11 @@
 -- One component after the other commits, each with itself as group.
-use Prim.Native.Nat.{ℕ, zero, suc, _^_, _≤_, _<_}
+use Prim.Native.Nat.{ℕ, zero, suc, _+_, _^_, _≤_, _<_}
 use mathlib.Core.Path.{_≡_, refl, sym, _∙_, ap, subst, fun-ext}
 use mathlib.Core.Bool.{Bool, true, false, not}
 use mathlib.Core.List.{List, [], _∷_, _++_, map, append-nil}
 use mathlib.Core.Logic.{_⊎_, inl, inr, ⊎-elim}
 use lib.Dec.{eqb, ltb}
-use lib.ListN.{length}
+use lib.ListN.{length, length-append}
 use lib.Pow.{pow-pos}
 use native.Mathlib.Omega.{arith}
 use borrow.Author.Tests.{eqb-true, lt-ltb, ltb-true, ltb-false}
@@ -16,14 +16,14 @@ use Rattle.boards.proofs.Basics.{decide, clash, refute, test-ext, any-none, fal
 use Rattle.boards.proofs.Groups.{has-zero, has-ext, below-or, count, Bounded, bounded-more, Backward, Forward}
 use Rattle.boards.proofs.Groups.{unlink-true, true-unlink, unlink-bounded, links-ext, chain-join, chain-more}
 use Rattle.boards.proofs.Groups.{chain-outside-forward}
-use Rattle.boards.proofs.Groups.{in-commit-group, commit-group-small, mask-below}
+use Rattle.boards.proofs.Groups.{in-commit-group, commit-group-small, mask-below, count-none}
 use Rattle.volatile.specs.Volatile.{depends, engaged, bad-record}
 use Rattle.volatile.specs.declared.Record.{Record}
 use Rattle.components.specs.Components.{component, order-from, all-boards, order}
 use Rattle.components.specs.Claims.{Sixteen-boards}
 use Rattle.components.proofs.Ready.{minus-has, has-minus}
 use Rattle.components.proofs.Ready as next
-use Rattle.components.proofs.Orders.{record-bounded, has-all, all-back, all-few, none-counted}
+use Rattle.components.proofs.Orders.{record-bounded, has-all, all-back, all-counted, none-counted}
 use Rattle.components.proofs.Orders.{order-none, order-some}
 use Rattle.protocol.specs.Image.{Memory, Tags, size, shape-of, in-order, view}
 use Rattle.protocol.specs.Calls.{bad-tags}
@@ -33,9 +33,10 @@ use Rattle.costs.specs.Claims.{Answered-call, played}
 use Rattle.costs.proofs.Opened.{Grouped}
 use Rattle.costs.proofs.Completes.{In-order, none-acknowledged}
 use Rattle.shutdown.specs.Shutdown.{In-any-order, Sequence, ends, goes-on, commit-due}
-use Rattle.shutdown.specs.Shutdown.{commits-due, call-of, left-by}
+use Rattle.shutdown.specs.Shutdown.{commits-due, call-of, end-of}
 use Rattle.shutdown.specs.Shutdown.{Committed, Commits-in-order}
 use Rattle.shutdown.proofs.Runs.{Leads, leads-none, leads-then, leads-all, leads-end, any-both}
+use Rattle.shutdown.proofs.Times.{length-callers, length-commit, count-parts}
 use Rattle.shutdown.proofs.Member.{short, Gone, Completes, committed}
 
 -- ---- tags
@@ -134,6 +135,20 @@ module _ (s : Shape) (limit : Limits s) {d : Links} (bound : Bounded (s .boards)
                   false-not (refute (has left y) (λ f. clash (back .onto x y f e) (not-true (has left x) h)));
             }
 
+    -- the boards left are those of the component and the others
+    parts-counted : count 16 (has left) ≡ count 16 (has c) + count 16 (has rest)
+    parts-counted =
+        count-parts 16 (has left) (has c) (has rest)
+        (λ j. ⊎-elim
+        (λ (h : has c j ≡ true).
+        let out = refute (has rest j) (λ y. clash h (minus-has left c j y .1)) in
+        rw (next.next-inside b small back some j h, h, out) (omega arith))
+        (λ (h : has c j ≡ false).
+        let same : has left j ≡ has rest j =
+        test-ext _ _ (λ y. has-minus left c j small y h) (λ y. minus-has left c j y .0) in
+        rw (same, h) (omega arith))
+        (decide (has c j)))
+
     -- the tags that the component's boards have are those that they had
     old-tags : {image : List ℕ} {r : Record} → Standing left image r
         → (x : ℕ) → tagged-in c (view s image Tags x) ≡ tagged-in c (m₀ Tags x)
@@ -216,8 +231,9 @@ module _ (s : Shape) (limit : Limits s) {d : Links} (bound : Bounded (s .boards)
                   (w .tags x))
                   (decide (tagged-in c (view s image Tags x)))
 
-  -- all calls are answered as is due, and nobody is left
-  record All-gone (image : List ℕ) (r : Record) (due : List Answered-call) : Type 0 where
+  -- each board left has its call, all calls are answered as is due, and then nobody is left
+  record All-gone (left : ℕ) (image : List ℕ) (r : Record) (due : List Answered-call) : Type 0 where
+    many : length due ≡ count 16 (has left)
     image-after : List ℕ
     record-after : Record
     leads : Leads image r due image-after record-after
@@ -225,16 +241,17 @@ module _ (s : Shape) (limit : Limits s) {d : Links} (bound : Bounded (s .boards)
 
   module _ (context : ℕ → List ℕ) (full : (j : ℕ) → length (context j) ≡ s .context) (k : ℕ → ℕ) where
     -- the components of a list commit one after the other
-    abbrev Commit-all : List ℕ → List ℕ → Record → Type 0
-    Commit-all gs image r =
+    abbrev Commit-all : ℕ → List ℕ → List ℕ → Record → Type 0
+    Commit-all left gs image r =
         (boards : List (List ℕ)) → Sequence gs boards → anyOf short (commits-due s m₀ context k gs boards) ≡ false
-        → All-gone image r (commits-due s m₀ context k gs boards)
+        → All-gone left image r (commits-due s m₀ context k gs boards)
 
     nobody-left : {left : ℕ} {image : List ℕ} {r : Record} → eqb left 0 ≡ true → Standing left image r
-        → Commit-all [] image r
+        → Commit-all left [] image r
     unfolding commits-due
     nobody-left {left} {image} {r} z w boards sequence enough =
         record {
+          many = sym (count-none 16 (has left) (λ j. ap (λ x. has x j) (eqb-true left 0 z) ∙ has-zero j));
           image-after = image;
           record-after = r;
           leads = leads-none;
@@ -245,16 +262,22 @@ module _ (s : Shape) (limit : Limits s) {d : Links} (bound : Bounded (s .boards)
         (below : (j : ℕ) → has left j ≡ true → j < s .boards)
       where
         next-gone : (gs : List ℕ) → ((image : List ℕ) (r : Record) → Standing (rest small back some) image r
-            → Commit-all gs image r)
-            → (image : List ℕ) (r : Record) → Standing left image r → Commit-all (c small back some ∷ gs) image r
+            → Commit-all (rest small back some) gs image r)
+            → (image : List ℕ) (r : Record) → Standing left image r → Commit-all left (c small back some ∷ gs) image r
         unfolding commits-due
-        next-gone gs others image r w _ (goes-on {boards = boards} {later = later} each sequence) enough =
+        next-gone gs others image r w _ (goes-on {callers = boards} {later = later} each sequence) enough =
             let own = commit-due s m₀ context k (c small back some) boards in
             let both = any-both short own (commits-due s m₀ context k gs later) enough in
             let now = commit-so small back some below context full k w boards each (both .0) in
             let standing = still-standing small back some below context full k w _ _ (now .gone) in
             let more = others _ _ standing later sequence (both .1) in
+            let own-many =
+            length-commit s m₀ context k (c small back some) boards
+            ∙ length-callers (c small back some) (next.component-small b (first small back some)) boards each in
             record {
+              many =
+                  length-append own (commits-due s m₀ context k gs later)
+                  ∙ omega (arith, own-many, more .many, parts-counted small back some);
               image-after = more .image-after;
               record-after = more .record-after;
               leads = leads-then (now .leads) (more .leads);
@@ -263,17 +286,17 @@ module _ (s : Shape) (limit : Limits s) {d : Links} (bound : Bounded (s .boards)
 
     all-gone : (n : ℕ) {left : ℕ} → left < 2 ^ 16 → Backward (has left) d → count 16 (has left) ≤ n
         → ((j : ℕ) → has left j ≡ true → j < s .boards) → (image : List ℕ) (r : Record) → Standing left image r
-        → Commit-all (order-from d n left) image r
+        → Commit-all left (order-from d n left) image r
     all-gone zero {left} small back few below image r w =
         let z = none-counted b small back few in
-        subst (λ gs. Commit-all gs image r) (sym (order-none d left 0 z)) (nobody-left z w)
+        subst (λ gs. Commit-all left gs image r) (sym (order-none d left 0 z)) (nobody-left z w)
     all-gone (suc n) {left} small back few below image r w =
         ⊎-elim
         (λ (z : eqb left 0 ≡ true).
-        subst (λ gs. Commit-all gs image r) (sym (order-none d left (suc n) z)) (nobody-left z w))
+        subst (λ gs. Commit-all left gs image r) (sym (order-none d left (suc n) z)) (nobody-left z w))
         (λ (some : eqb left 0 ≡ false).
         let less = next.rest-fewer b small back some in
-        subst (λ gs. Commit-all gs image r) (sym (order-some d left n some))
+        subst (λ gs. Commit-all left gs image r) (sym (order-some d left n some))
         (next-gone small back some below _
         (all-gone n (next.rest-small b small back some) (next.rest-back b small back some) (omega arith)
         (λ j h. below j (minus-has left (c small back some) j h .0)))
@@ -335,20 +358,20 @@ module _ (image : List ℕ) (r : Record) (ordered : in-order 0 image ≡ true)
         low zero l = inl refl
         low (suc j) l = inr (is-board j l)
 
-    few-boards : count 16 (has everybody) ≤ shape .boards
-    few-boards =
-        subst (λ q. count 16 q ≤ shape .boards) (sym (fun-ext (has-all (limit .most-boards) bound)))
-        (all-few (shape .boards) 16)
+    all-boards-counted : count 16 (has everybody) ≡ shape .boards
+    all-boards-counted =
+        ap (count 16) (fun-ext (has-all (limit .most-boards) bound))
+        ∙ all-counted (shape .boards) 16 (limit .most-boards)
 
     committed-all : (boards : List (List ℕ)) → Sequence (order (shape .boards) (depends r)) boards
         → (context : ℕ → List ℕ) → ((j : ℕ) → length (context j) ≡ shape .context) → (k : ℕ → ℕ)
         → anyOf short (commits-due shape (view shape image) context k (order (shape .boards) (depends r)) boards) ≡ false
-        → All-gone shape limit bound (view shape image) image r
+        → All-gone shape limit bound (view shape image) everybody image r
         (commits-due shape (view shape image) context k (order (shape .boards) (depends r)) boards)
     unfolding order
     committed-all boards sequence context full k enough =
         all-gone shape limit bound (view shape image) context full k (shape .boards) (mask-below 16 _)
-        (all-back (limit .most-boards) bound) few-boards
+        (all-back (limit .most-boards) bound) (omega (arith, all-boards-counted))
         (λ j h. ltb-true j (shape .boards) (sym (has-all (limit .most-boards) bound j) ∙ h))
         image r at-first boards sequence enough
 
@@ -361,6 +384,7 @@ commits-in-order image r ordered recorded free sixteen boards sequence context f
     let stands = all .standing in
     let end = leads-end (all .leads) in
     record {
+      calls = all .many ∙ all-boards-counted image r ordered recorded free sixteen;
       answers = leads-all (all .leads);
       unlinked = λ a b.
           ap (λ w. depends (w .state) a b) end ∙ ap (λ d. d a b) (stands .rows)

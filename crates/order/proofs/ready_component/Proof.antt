@@ -3,7 +3,7 @@ use mathlib.Core.Path.{_≡_, sym, _∙_, ap}
 use Rattle.boards.specs.Boards.{Links, fault-group}
 use Rattle.boards.specs.Rows.{links-of}
 use Rattle.boards.proofs.Basics.{not-true, not-false}
-use Rattle.components.specs.Components.{common}
+use Rattle.components.specs.Components.{intersection}
 use Rattle.order.proofs.Next.{not-left, not-ready, is-ready}
 use Rattle.order.proofs.ready_component.Statement.{statement}
 use Rattle.order.proofs.ready_component.Tie as tie
@@ -14,7 +14,7 @@ returns c =
     not-left (links-of (a .rows)) (a .left) (a .i) (sym (c .before .has .ensures) ∙ not-true (c .before .has .result) (c .if1 .taken))
 
 -- what the sets are
-module _ (c : tie.After-common2) where
+module _ (c : tie.After-intersection2) where
   abbrev asked : tie.After-commit-closure
   asked = c .before .before .before
 
@@ -24,24 +24,24 @@ module _ (c : tie.After-common2) where
   abbrev d : Links
   d = links-of (start .args .rows)
 
-  own-is : c .before .common .result
-      ≡ common (asked .commit-closure .result .members) (fault-group d (start .args .i))
+  own-is : c .before .intersection .result
+      ≡ intersection (asked .commit-closure .result .members) (fault-group d (start .args .i))
   own-is =
-      c .before .common .ensures
-      ∙ ap (common (asked .commit-closure .result .members)) (c .before .before .fault-closure .ensures .members)
+      c .before .intersection .ensures
+      ∙ ap (intersection (asked .commit-closure .result .members)) (c .before .before .fault-closure .ensures .members)
 
 returns-2 : tie.Need-returns-2
 returns-2 c =
     let a = start (c .before) .args in
     not-ready (d (c .before)) (a .left) (a .i) (asked (c .before) .commit-closure .ensures .members) (own-is (c .before))
-    (c .before .common2 .ensures) (c .if2 .taken)
+    (c .before .intersection2 .ensures) (c .if2 .taken)
 
 returns-3 : tie.Need-returns-3
 returns-3 c =
     let a = start (c .before) .args in
     let entered = asked (c .before) .before in
     is-ready (d (c .before)) (a .left) (a .i) (asked (c .before) .commit-closure .ensures .members) (own-is (c .before))
-    (c .before .common2 .ensures) (sym (entered .before .has .ensures) ∙ not-false (entered .before .has .result) (entered .if1 .left))
+    (c .before .intersection2 .ensures) (sym (entered .before .has .ensures) ∙ not-false (entered .before .has .result) (entered .if1 .left))
     (c .if2 .left)
 
 pub ready-component-spec : {M : Type 1} → statement M
