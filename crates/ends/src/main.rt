@@ -1,5 +1,5 @@
-// How a run ends: at the limit of 99,999 lines, whose last is cut, by errors of the system, and a page at these and at
-// its limit of 9,999 commits. Each run is told in a line, and the last lines of some follow. The long events and what
+// How a run ends: at the limit of 99,999 lines, whose last is cut, by errors of the system, a page at these and at its
+// limit of 9,999 commits, and an order. Each run is told in a line, and the last lines of some follow. The long events and what
 // is printed of them are files of the folder that the program is run in.
 use reports::Task;
 use stream::Ended;
@@ -39,6 +39,17 @@ fn write_commits(times: usize) {
     let fd = os::open_overwrite(b"commits");
     io::write_all(fd, b"F,1,1,1,0\n");
     repeat(fd, b"W,0,0,07\nC,0,\n", times);
+    repeat(fd, b"0123456789", 2000);
+    libc::close(fd);
+}
+
+// In line 99,999 board 0 comes to depend on board 1, and in line 100,000 neither would depend on the other any more; then
+// a line that is longer than two pieces of what is read.
+fn write_late_links() {
+    let fd = os::open_overwrite(b"links");
+    io::write_all(fd, b"F,3,1,1,0\n");
+    repeat(fd, b"U\n", 99996);
+    io::write_all(fd, b"W,1,0,07\nR,0,0,1\nX,1\n");
     repeat(fd, b"0123456789", 2000);
     libc::close(fd);
 }
@@ -106,6 +117,13 @@ fn play_page(name: &[u8], from: i32) {
     tell_last(-96);
 }
 
+// `rsmorder`, and the last three lines that it printed.
+fn play_order(name: &[u8], from: i32) {
+    let task = Task::order();
+    play(name, task, from, os::open_overwrite(b"played"));
+    tell_last(-15);
+}
+
 // At the limit of lines, by errors of the system; after a write that failed nothing more is read.
 fn play_all_rows() {
     write_events();
@@ -140,7 +158,15 @@ fn play_all_pages() {
     play_page(b"page of a directory: ", os::open_read(b"."));
 }
 
+// At the limit of lines; after a read that failed there is no order.
+fn play_all_orders() {
+    write_late_links();
+    play_order(b"order of 100,001 lines: ", os::open_read(b"links"));
+    play_order(b"order of a directory: ", os::open_read(b"."));
+}
+
 fn main() {
     play_all_rows();
     play_all_pages();
+    play_all_orders();
 }
