@@ -30,7 +30,8 @@ returns c =
     let asked = chosen .before .before in
     let args = asked .before .before .before .before .args in
     subst (λ t. Appends t (args .at) (now (args .out)) (ended .put .result) (ended .put .last .0))
-    (refusal-text (now (args .image)) (args .state) (asked .order .ensures) (chosen .if1 .taken))
+    (refusal-text (now (args .image)) (args .state) (asked .order .ensures)
+    (omega (arith, chosen .if1 .taken)))
     (appends-then (number .put-decimal .ensures) (ended .put .ensures))
 
 put-lines-requires : tie.Need-put-lines-requires
@@ -38,7 +39,7 @@ put-lines-requires c κs =
     let asked = c .before .before .before in
     let start = asked .before .before .before .before in
     let at-most = few (now (start .args .image)) (start .args .state) (asked .order .ensures) in
-    (at-most, omega (arith, start .pre))
+    (omega (arith, at-most), omega (arith, at-most, start .pre))
 
 returns-2 : tie.Need-returns-2
 returns-2 c =
@@ -47,7 +48,8 @@ returns-2 c =
     let asked = chosen .before .before in
     let args = asked .before .before .before .before .args in
     subst (λ t. Appends t (args .at) (now (args .out)) (lines .put-lines .result) (lines .put-lines .last .0))
-    (order-lines (now (args .image)) (args .state) (asked .order .ensures) (chosen .if1 .left))
+    (order-lines (now (args .image)) (args .state) (asked .order .ensures)
+    (omega (arith, chosen .if1 .left)))
     (lines .put-lines .ensures)
 
 pub put-order-spec : {M : Type 1} → statement M

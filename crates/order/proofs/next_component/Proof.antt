@@ -40,7 +40,7 @@ returns c =
     answered-ready b (a .left) (l .loop .i) _ (asked .ready-component .ensures) (c .if1 .taken) in
     own
     ∙ ap (component (links-of (a .rows)))
-    (first-lowest b (a .left) (l .loop .i) (asked .before .loop-test .taken) ready (l .loop .inv .1))
+    (first-lowest b (a .left) (l .loop .i) (omega (arith, asked .before .loop-test .taken)) ready (l .loop .inv .1))
 
 add-i : tie.Need-add-i Inv-loop μ-loop
 add-i c = omega arith
@@ -54,7 +54,7 @@ loop-again c =
     let l = asked .before .before in
     let a = l .before .args in
     let none =
-    answered-none (bounded (l .before)) (a .left) (l .loop .i) _ (asked .before .loop-test .taken)
+    answered-none (bounded (l .before)) (a .left) (l .loop .i) _ (omega (arith, asked .before .loop-test .taken))
     (asked .ready-component .ensures) (c .if1 .left) in (
       omega arith,
       λ j k. ⊎-elim (l .loop .inv .1 j)
