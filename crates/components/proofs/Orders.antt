@@ -1,7 +1,7 @@
 -- The order of components is right, and the only list that is.
 use Prim.Native.Nat.{ℕ, zero, suc, _+_, _^_, _≤_, _<_}
 use mathlib.Core.Path.{_≡_, refl, sym, _∙_, ap, ap₂, fun-ext, subst}
-use mathlib.Core.Bool.{Bool, true, false}
+use mathlib.Core.Bool.{true, false}
 use mathlib.Core.List.{List, [], _∷_}
 use mathlib.Core.Logic.{_⊎_, inl, inr, ⊎-elim}
 use lib.Dec.{eqb, ltb}
@@ -10,10 +10,10 @@ use lib.Pow.{pow-mono}
 use native.Mathlib.Omega.{arith}
 use native.Mathlib.Nat.{pow-suc, lt-of-lt-of-le}
 use borrow.Author.Tests.{eqb-true, lt-ltb, le-ltb}
-use Rattle.boards.specs.Boards.{has, Links, Chain, here, setOf}
+use Rattle.boards.specs.Boards.{has, Links, Chain, here}
 use Rattle.boards.specs.Rows.{minus}
 use Rattle.boards.proofs.Basics.{decide, clash, refute, test-ext}
-use Rattle.boards.proofs.Groups.{has-zero, has-ext, has-mask, has-beyond, mask-below, count, count-le, below-or}
+use Rattle.boards.proofs.Groups.{has-zero, has-ext, has-mask, has-beyond, mask-below, count, below-or}
 use Rattle.boards.proofs.Groups.{Bounded, bounded-more, Backward, chain-join}
 use Rattle.volatile.specs.Volatile.{depends, bad-record}
 use Rattle.volatile.specs.declared.Record.{Record}
@@ -124,7 +124,9 @@ module _ {d : Links} (b : Bounded 16 d) {left : ℕ} (small : left < 2 ^ 16) (ba
             mutual-with = λ k c e.
                 let (z, g) = stands k e in
                 let here-too : has (at sets y) k ≡ true =
-                ⊎-elim (λ q. absurd (omega arith)) (λ (q : z ≡ suc y). subst (λ x. has (at (gone ∷ sets) x) k ≡ true) q g)
+                ⊎-elim
+                (λ q. absurd (omega arith))
+                (λ (q : z ≡ suc y). subst (λ x. has (at (gone ∷ sets) x) k ≡ true) q g)
                 (f j k z h c g)
                 in
                 o .connected y j k h (o .no-other y k here-too) .0 here-too .1;
@@ -285,7 +287,8 @@ from-right {d} b zero {left} small back few =
     subst (Only d left) (sym (order-none d left 0 z)) (empty-right-only b small back z)
 from-right {d} b (suc n) {left} small back few =
     ⊎-elim
-    (λ (z : eqb left 0 ≡ true). subst (Only d left) (sym (order-none d left (suc n) z)) (empty-right-only b small back z))
+    (λ (z : eqb left 0 ≡ true).
+    subst (Only d left) (sym (order-none d left (suc n) z)) (empty-right-only b small back z))
     (λ (some : eqb left 0 ≡ false).
     let less = next.rest-fewer b small back some in
     subst (Only d left) (sym (order-some d left n some))

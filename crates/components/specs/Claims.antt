@@ -20,7 +20,8 @@ abbrev pub Depends-before : Links → List ℕ → ℕ → ℕ → Type 0
 Depends-before d sets x y =
     (i j z : ℕ) → has (at sets y) i ≡ true → Chain d i j → has (at sets z) j ≡ true → (z < x) ⊎ (z ≡ y)
 
--- The sets are the strongly connected components of the boards of which `board` holds, in the order in which they commit.
+-- The sets are the strongly connected components of the boards of which `board` holds, in the order in which they
+-- commit.
 pub record Orders (d : Links) (board : ℕ → Bool) (sets : List ℕ) : Type 0 where
   -- none is empty
   pub some : (x : ℕ) → x < length sets → (j : ℕ) × (has (at sets x) j ≡ true)

@@ -25,8 +25,8 @@ unfoldable pub lowest : ℕ → (ℕ → Bool) → ℕ
 lowest zero p = 0
 lowest (suc n) p = cond (p 0) 0 (suc (lowest n (λ i. p (suc i))))
 
--- The components of the boards of `left` in their order, by recursion on n, which is at least the number of boards left:
--- while there are any, the lowest that may go next goes with its component.
+-- The components of the boards of `left` in their order, by recursion on n, which is at least the number of boards
+-- left: while there are any, the lowest that may go next goes with its component.
 unfoldable pub order-from : Links → ℕ → ℕ → List ℕ
 order-from d zero left = []
 order-from d (suc n) left =

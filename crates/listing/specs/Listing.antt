@@ -1,4 +1,4 @@
--- The order of a text (document 02, Req 07): its lines are played as `rsmrun` plays them, and then the order is printed.
+-- The order of a text (document 02, Req 07): its lines are played as `rsmrun` plays them, then the order is printed.
 use Prim.Native.Nat.{ℕ}
 use mathlib.Core.Bool.{cond}
 use mathlib.Core.List.{List, [], _∷_, _++_}

@@ -1,11 +1,11 @@
 -- What the call answers: refused, or the order of all boards.
-use Prim.Native.Nat.{ℕ, zero, suc, _+_, _≤_, _<_}
-use mathlib.Core.Path.{_≡_, refl, sym, _∙_, ap, subst, fun-ext}
+use Prim.Native.Nat.{ℕ, zero, suc, _≤_}
+use mathlib.Core.Path.{_≡_, refl, sym, _∙_, ap, fun-ext}
 use mathlib.Core.Bool.{Bool, true, false, not, cond}
-use mathlib.Core.List.{List, [], _∷_, _++_}
+use mathlib.Core.List.{List, [], _∷_}
 use mathlib.Core.Logic.{⊎-elim, _≢_}
-use lib.Dec.{eqb, ltb, leb}
-use lib.ListN.{length, drop}
+use lib.Dec.{eqb}
+use lib.ListN.{length}
 use native.Mathlib.Omega.{arith}
 use native.Mathlib.Nat.{zero-add}
 use borrow.Author.Tests.{eq-eqb, ne-eqb, eqb-true, eqb-false, lt-leb}
@@ -25,7 +25,7 @@ use Rattle.protocol.proofs.Bridge.{limits, order-sound}
 use Rattle.protocol.proofs.Refusals.{entered, first-held, first-passed, first-stops, entry-goes-on}
 use Rattle.costs.specs.Forecasts.{commit-tests, commit-forecast}
 use Rattle.costs.proofs.Answers.{answered-status}
-use Rattle.order.specs.Call.{order-tests, order-status, components, Answers-order, With-dependents, Put-from}
+use Rattle.order.specs.Call.{order-status, components, Answers-order, With-dependents, Put-from}
 use Rattle.order.specs.Claims.{Refused-as-forecast}
 use Rattle.order.specs.declared.Ordered.{Ordered}
 use Rattle.order.proofs.Next.{rows-bounded}

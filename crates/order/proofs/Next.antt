@@ -1,17 +1,17 @@
 -- The next component as the code finds it, and all boards by a shift.
-use Prim.Native.Nat.{ℕ, zero, suc, _+_, _-_, _*_, _/_, _^_, _≤_, _<_}
-use mathlib.Core.Path.{_≡_, refl, sym, _∙_, ap, subst}
-use mathlib.Core.Bool.{Bool, true, false, _&&_, not, cond}
+use Prim.Native.Nat.{ℕ, _+_, _-_, _*_, _/_, _^_, _≤_, _<_}
+use mathlib.Core.Path.{_≡_, sym, _∙_, ap}
+use mathlib.Core.Bool.{true, false, not, cond}
 use mathlib.Core.List.{List}
 use mathlib.Core.Logic.{⊎-elim, _≢_}
 use lib.Bits.{bitAnd, and-lt}
 use lib.Dec.{eqb, ltb}
-use lib.ListN.{length, getD, List·getD-eq-default}
+use lib.ListN.{getD, List·getD-eq-default}
 use lib.Pow.{pow-pos, pow-mono, ones-split, high}
 use native.Mathlib.Omega.{arith}
 use native.Mathlib.Nat.{sub-zero}
 use borrow.Author.Tests.{eq-eqb, ne-eqb, lt-ltb, le-ltb}
-use Rattle.boards.specs.Boards.{has, setOf, Links, commit-group, fault-group}
+use Rattle.boards.specs.Boards.{has, Links, commit-group, fault-group}
 use Rattle.boards.specs.Rows.{links-of}
 use Rattle.boards.proofs.Basics.{decide, clash, true-and, false-and, and-false, if-true, if-false, refute}
 use Rattle.boards.proofs.Groups.{below-or, has-below, has-small, has-zero, Bounded, Backward}
@@ -37,7 +37,9 @@ ones-shift p l =
     ap (λ n. n / 2 ^ k) ones ∙ high (2 ^ p - 1) k low
     ∙ mask-told 16 (2 ^ p - 1) (λ j. ltb j p) most
     (λ j m. ⊎-elim
-    (λ (b : j < p). ap (λ n. has n j) (sym (sub-zero (2 ^ p - 1))) ∙ has-not p 0 j (pow-pos p) b ∙ ap not (has-zero j) ∙ sym (lt-ltb j p b))
+    (λ (b : j < p).
+    ap (λ n. has n j) (sym (sub-zero (2 ^ p - 1))) ∙ has-not p 0 j (pow-pos p) b ∙ ap not (has-zero j)
+    ∙ sym (lt-ltb j p b))
     (λ (b : p ≤ j). has-small p (2 ^ p - 1) j (omega (arith, pow-pos p)) b ∙ sym (le-ltb j p b))
     (below-or j p))
 

@@ -1,40 +1,40 @@
 -- The commit of one component: a start and its acknowledgements, each answered as is due.
-use Prim.Native.Nat.{ℕ, zero, suc, _+_, _*_, _^_, _≤_, _<_}
+use Prim.Native.Nat.{ℕ, suc, _*_, _^_, _≤_, _<_}
 use mathlib.Core.Path.{_≡_, refl, sym, _∙_, ap, subst}
 use mathlib.Core.Bool.{Bool, true, false, _&&_, _||_, not, cond, or-false as or-none, and-true as and-yes}
-use mathlib.Core.List.{List, [], _∷_, _++_}
-use mathlib.Core.Logic.{⊎-elim, _≢_}
+use mathlib.Core.List.{List, [], _∷_}
+use mathlib.Core.Logic.{⊎-elim}
 use lib.Dec.{eqb, ltb, eqb·suc-zero}
 use lib.ListN.{length}
 use lib.Seq.{take-length}
 use native.Mathlib.Omega.{arith}
 use native.Mathlib.Nat.{add-zero}
-use borrow.Author.Tests.{lt-leb, eq-eqb, eqb-true, eqb-false, ne-eqb, ltb-false}
+use borrow.Author.Tests.{lt-leb, eq-eqb, eqb-true, ltb-false}
 use Rattle.boards.specs.Lists.{anyOf}
 use Rattle.boards.specs.Boards.{has, with-board, meets, tagged-in, Links, unlink, commit-group}
 use Rattle.boards.proofs.Basics.{decide, clash, or-false, and-true, true-and, and-false, false-and, not-true, refute}
 use Rattle.boards.proofs.Basics.{test-ext}
-use Rattle.boards.proofs.Basics.{or-right, true-or, eqb-same}
+use Rattle.boards.proofs.Basics.{or-right}
 use Rattle.boards.proofs.Groups.{Bounded, has-ext, has-with, has-small, has-zero, mask-below, meets-yes, below-or}
 use Rattle.boards.proofs.Groups.{has-none, count-none, count-some}
 use Rattle.volatile.specs.Volatile.{closed, depends, engaged, left-open, opened, clear, acknowledge}
 use Rattle.volatile.specs.declared.Record.{Record}
 use Rattle.volatile.proofs.Records.{depends-clear}
-use Rattle.protocol.specs.Image.{Memory, Tags, Tentative, Group, Decision, rank, change, after, shape-of, in-order, view}
+use Rattle.protocol.specs.Image.{Memory, Tags, Tentative, rank, change, after, shape-of, view}
 use Rattle.protocol.specs.Calls.{Request, Start, Acknowledge, Outcome, first, entry-tests, start-tests, refusals}
 use Rattle.protocol.specs.Calls.{placing, acknowledging, plan, perform}
 use Rattle.protocol.specs.declared.Shape.{Shape}
 use Rattle.protocol.specs.declared.Answer.{Answer}
 use Rattle.protocol.proofs.Bridge.{Limits}
 use Rattle.protocol.proofs.Copies.{placing-other}
-use Rattle.protocol.proofs.Safety.{decision, decision-done, Completed, completed}
-use Rattle.costs.specs.Forecasts.{boards-of, blocks-cost}
+use Rattle.protocol.proofs.Safety.{decision, decision-done, completed}
+use Rattle.costs.specs.Forecasts.{boards-of}
 use Rattle.costs.specs.Claims.{Answered-call, commit-request}
 use Rattle.costs.proofs.Answers.{done-finished}
 use Rattle.costs.proofs.Counted.{length-those, deciding-cost, blocks-counted}
 use Rattle.costs.proofs.Opened.{called, Grouped, Open}
-use Rattle.costs.proofs.Given.{Giving, acks-inside, some-stores, some-next, some-long, some-answer, some-acks, some-open}
-use Rattle.costs.proofs.Given.{all-stores, all-next, all-length, all-answer, acknowledge-giving}
+use Rattle.costs.proofs.Given.{Giving, acks-inside, some-stores, some-next, some-long, some-answer, some-acks}
+use Rattle.costs.proofs.Given.{some-open, all-stores, all-next, all-length, all-answer, acknowledge-giving}
 use Rattle.costs.proofs.Completes.{In-order, done-leaves, acknowledge-taken}
 use Rattle.shutdown.specs.Shutdown.{times, In-any-order, answer-due, call-due}
 use Rattle.shutdown.specs.Shutdown.{acknowledgements-due, commit-due}
@@ -87,7 +87,8 @@ module _ (g : ℕ) (small : g < 2 ^ 16) (old i : ℕ) (js : List ℕ) (waits : A
       let none : times j (i ∷ js) ≡ 0 = waits j ∙ ap (λ t. cond t 1 0) (false-and (not (has old j)) out) in
       let apart : eqb i j ≡ false =
       refute (eqb i j) (λ q. clash (ap (has g) (sym (eqb-true i j q)) ∙ first-awaited .0) out) in
-      sym (times-other i j js apart) ∙ none ∙ sym (ap (λ t. cond t 1 0) (false-and (not (has (with-board old i) j)) out)))
+      sym (times-other i j js apart) ∙ none
+      ∙ sym (ap (λ t. cond t 1 0) (false-and (not (has (with-board old i) j)) out)))
       (below-or j 16)
 
 -- all are awaited before the start
@@ -165,6 +166,10 @@ module _ (s : Shape) (limits : Limits s) (g : ℕ) (group : Grouped s g) (m₀ m
         abbrev acks : ℕ
         acks = with-board (before .commit .acknowledged) i
 
+        -- the call with an answer
+        abbrev told : Answer → Answered-call
+        told a = record { request = request; k = k i; answer = a }
+
         abbrev outcome : Outcome
         outcome = perform image r request (k i)
 
@@ -192,45 +197,52 @@ module _ (s : Shape) (limits : Limits s) (g : ℕ) (group : Grouped s g) (m₀ m
 
         -- not the last: it is done, and the commit goes on
         module _ (e : eqb acks g ≡ false) (l : s .context ≤ k i) where
-          some-called : called image r request (k i) ≡ record { request = request; k = k i; answer = answer-due s m₀ context k g false }
-          some-called =
-              ap (λ a. record { request = request; k = k i; answer = a }) (some-answer s g m₀ group h e (k i) l ∙ some-due)
+          some-called : called image r request (k i) ≡ told (answer-due s m₀ context k g false)
+          some-called = ap told (some-answer s g m₀ group h e (k i) l ∙ some-due)
 
           some-going : Going (outcome .image) (outcome .reply .next) (suc n)
           unfolding acknowledge depends
           some-going =
-              let f = done-finished image (h .before-it .shape) r request (h .passed) (k i) (some-long s g m₀ group h e (k i) l) in
+              let long = some-long s g m₀ group h e (k i) l in
+              let f = done-finished image (h .before-it .shape) r request (h .passed) (k i) long in
+              let stored = ap (λ ps. after ps (view s image)) (some-stores s g m₀ group h e) in
               let a = some-answer s g m₀ group h e (k i) l in
               record {
                 opened = some-open s g m₀ group h e (k i) l;
                 order = done-leaves image r request (k i) (h .before-it .shape) small (ap (λ y. y .status) a);
                 rows = ap depends (f .next ∙ some-next s g m₀ group h e) ∙ rows;
-                tags = λ b. ap (λ x. x Tags b) (f .memory ∙ ap (λ ps. after ps (view s image)) (some-stores s g m₀ group h e)) ∙ given-tags b;
+                tags = λ b. ap (λ x. x Tags b) (f .memory ∙ stored) ∙ given-tags b;
               }
 
         -- the last: it is done, and the commit is completed
         module _ (e : eqb acks g ≡ true) (l : deciding-cost s g m₀ ≤ k i) where
-          all-called : called image r request (k i) ≡ record { request = request; k = k i; answer = answer-due s m₀ context k g true }
-          all-called =
-              ap (λ a. record { request = request; k = k i; answer = a }) (all-answer s g m₀ group h e (k i) l ∙ all-due)
+          all-called : called image r request (k i) ≡ told (answer-due s m₀ context k g true)
+          all-called = ap told (all-answer s g m₀ group h e (k i) l ∙ all-due)
 
           all-gone : Gone (outcome .image) (outcome .reply .next)
           unfolding acknowledge depends
           all-gone =
-              let f = done-finished image (h .before-it .shape) r request (h .passed) (k i) (rw (all-length s g m₀ group h e) l) in
+              let f =
+              done-finished image (h .before-it .shape) r request (h .passed) (k i)
+              (rw (all-length s g m₀ group h e) l) in
+              let stored = ap (λ ps. after ps (view s image)) (all-stores s g m₀ group h e) in
               let a = all-answer s g m₀ group h e (k i) l in
               let now = acknowledge before i in
               let next = f .next ∙ all-next s g m₀ group h e in
               let m₁ = decision s (view s image) i g (context i) in
-              let memory = f .memory ∙ ap (λ ps. after ps (view s image)) (all-stores s g m₀ group h e) ∙ decision-done s (view s image) i g (context i) in
+              let memory = f .memory ∙ stored ∙ decision-done s (view s image) i g (context i) in
               let c = completed s (limits .some-size) m₁ g in
               record {
                 shape = f .sound .shape;
                 order = done-leaves image r request (k i) (h .before-it .shape) small (ap (λ y. y .status) a);
                 closed-now = ap engaged next ∙ dropped;
-                rows = ap depends next ∙ depends-clear now (subst (Bounded 16) (sym rows) b) g ∙ ap (unlink (has g)) rows;
-                tag-zero = λ b l t. ap (λ x. x Tags b) memory ∙ c .tag-zero b l (ap (tagged-in g) (decision-tags b) ∙ t);
-                tag-left = λ b t. ap (λ x. x Tags b) memory ∙ c .tag-left b (ap (tagged-in g) (decision-tags b) ∙ t) ∙ decision-tags b;
+                rows =
+                    ap depends next ∙ depends-clear now (subst (Bounded 16) (sym rows) b) g ∙ ap (unlink (has g)) rows;
+                tag-zero = λ b l t.
+                    ap (λ x. x Tags b) memory ∙ c .tag-zero b l (ap (tagged-in g) (decision-tags b) ∙ t);
+                tag-left = λ b t.
+                    ap (λ x. x Tags b) memory ∙ c .tag-left b (ap (tagged-in g) (decision-tags b) ∙ t)
+                    ∙ decision-tags b;
               }
 
         -- the last call of the commit
@@ -254,7 +266,8 @@ module _ (s : Shape) (limits : Limits s) (g : ℕ) (group : Grouped s g) (m₀ m
 
         -- a call that others follow
         earlier-call : (j : ℕ) (js : List ℕ) → Awaits g (before .commit .acknowledged) (i ∷ j ∷ js)
-            → anyOf short (call-due s m₀ context k g request i (suc (length js)) ∷ acknowledgements-due s m₀ context k g (j ∷ js))
+            → anyOf short
+            (call-due s m₀ context k g request i (suc (length js)) ∷ acknowledgements-due s m₀ context k g (j ∷ js))
             ≡ false
             → ((image : List ℕ) (r : Record) → Going image r (suc n) → Awaits g (r .commit .acknowledged) (j ∷ js)
             → anyOf short (acknowledgements-due s m₀ context k g (j ∷ js)) ≡ false
@@ -267,21 +280,20 @@ module _ (s : Shape) (limits : Limits s) (g : ℕ) (group : Grouped s g) (m₀ m
             let old = before .commit .acknowledged in
             let less = awaits-less g (group .small) old i (j ∷ js) waits in
             let e = somebody-awaited g acks j js (group .small) less in
-            let one = or-false (short (call-due s m₀ context k g request i (suc (length js)))) (anyOf short due) enough in
+            let own = call-due s m₀ context k g request i (suc (length js)) in
+            let one = or-false (short own) (anyOf short due) enough in
             let more = eqb·suc-zero (length js) in
             let l : s .context ≤ k i =
             subst (λ a. a .stores ≤ k i) (sym some-due)
             (subst (λ t. answer-due s m₀ context k g t .stores ≤ k i) more (ltb-false (k i) _ (one .0))) in
-            let told : called image r request (k i) ≡ call-due s m₀ context k g request i (suc (length js)) =
-            some-called e l
-            ∙ ap (λ t. record { request = request; k = k i; answer = answer-due s m₀ context k g t }) (sym more) in
+            let answered = some-called e l ∙ ap (λ t. told (answer-due s m₀ context k g t)) (sym more) in
             let c =
             rest (outcome .image) (outcome .reply .next) (some-going e l)
             (subst (λ x. Awaits g x (j ∷ js)) (sym (some-acks s g m₀ group h e (k i) l)) less) (one .1) in
             record {
               image-after = c .image-after;
               record-after = c .record-after;
-              leads = leads-more (call-due s m₀ context k g request i (suc (length js))) told (c .leads);
+              leads = leads-more (call-due s m₀ context k g request i (suc (length js))) answered (c .leads);
               gone = c .gone;
             }
 

@@ -1,19 +1,16 @@
 -- Calls made one after the other.
-use Prim.Native.Nat.{ℕ, zero, suc, _+_}
+use Prim.Native.Nat.{ℕ, _+_}
 use mathlib.Core.Path.{_≡_, refl, sym, _∙_, ap}
-use mathlib.Core.Bool.{Bool, true, false, _&&_, _||_, not, cond}
+use mathlib.Core.Bool.{Bool, false}
 use mathlib.Core.List.{List, [], _∷_, _++_, map, map-append, append-assoc, append-nil}
-use mathlib.Core.Logic.{⊎-elim}
-use lib.Dec.{eqb}
-use native.Mathlib.Omega.{arith}
 use Rattle.boards.specs.Lists.{anyOf}
-use Rattle.boards.proofs.Basics.{decide, clash, or-false, false-or, eqb-same}
+use Rattle.boards.proofs.Basics.{or-false, false-or}
 use Rattle.volatile.specs.declared.Record.{Record}
-use Rattle.protocol.specs.Calls.{Request, perform}
+use Rattle.protocol.specs.Calls.{perform}
 use Rattle.protocol.specs.Claim.{Call}
 use Rattle.costs.specs.Claims.{Answered-call, played}
 use Rattle.costs.proofs.Opened.{called}
-use Rattle.shutdown.specs.Shutdown.{times, call-of, end-of}
+use Rattle.shutdown.specs.Shutdown.{call-of, end-of}
 
 -- The calls of a list are answered as is due and lead from one image and record to another, whatever follows them.
 pub record Leads (image : List ℕ) (r : Record) (due : List Answered-call) (image′ : List ℕ) (r′ : Record) : Type 0

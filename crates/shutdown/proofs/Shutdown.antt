@@ -1,10 +1,10 @@
 -- One component after the other commits, each with itself as group.
 use Prim.Native.Nat.{ℕ, zero, suc, _+_, _^_, _≤_, _<_}
 use mathlib.Core.Path.{_≡_, refl, sym, _∙_, ap, subst, fun-ext}
-use mathlib.Core.Bool.{Bool, true, false, not}
-use mathlib.Core.List.{List, [], _∷_, _++_, map, append-nil}
+use mathlib.Core.Bool.{true, false, not}
+use mathlib.Core.List.{List, [], _∷_}
 use mathlib.Core.Logic.{_⊎_, inl, inr, ⊎-elim}
-use lib.Dec.{eqb, ltb}
+use lib.Dec.{eqb}
 use lib.ListN.{length, length-append}
 use lib.Pow.{pow-pos}
 use native.Mathlib.Omega.{arith}
@@ -29,12 +29,12 @@ use Rattle.protocol.specs.Image.{Memory, Tags, size, shape-of, in-order, view}
 use Rattle.protocol.specs.Calls.{bad-tags}
 use Rattle.protocol.specs.declared.Shape.{Shape}
 use Rattle.protocol.proofs.Bridge.{Limits, limits, order-sound, view-past}
-use Rattle.costs.specs.Claims.{Answered-call, played}
+use Rattle.costs.specs.Claims.{Answered-call}
 use Rattle.costs.proofs.Opened.{Grouped}
 use Rattle.costs.proofs.Completes.{In-order, none-acknowledged}
 use Rattle.shutdown.specs.Shutdown.{In-any-order, Sequence, ends, goes-on, commit-due}
-use Rattle.shutdown.specs.Shutdown.{commits-due, call-of, end-of}
-use Rattle.shutdown.specs.Shutdown.{Committed, Commits-in-order}
+use Rattle.shutdown.specs.Shutdown.{commits-due}
+use Rattle.shutdown.specs.Shutdown.{Commits-in-order}
 use Rattle.shutdown.proofs.Runs.{Leads, leads-none, leads-then, leads-all, leads-end, any-both}
 use Rattle.shutdown.proofs.Times.{length-callers, length-commit, count-parts}
 use Rattle.shutdown.proofs.Member.{short, Gone, Completes, committed}
@@ -174,7 +174,8 @@ module _ (s : Shape) (limit : Limits s) {d : Links} (bound : Bounded (s .boards)
               small = next.component-small b first;
               below = λ j h. below j (next.next-inside b small back some j h);
               some = λ z.
-                  clash (next.in-next b small back some first .1 (here, here)) (ap (λ g. has g first) z ∙ has-zero first);
+                  clash (next.in-next b small back some first .1 (here, here))
+                  (ap (λ g. has g first) z ∙ has-zero first);
             }
 
         module _ {image : List ℕ} {r : Record} (w : Standing left image r) where
@@ -365,7 +366,8 @@ module _ (image : List ℕ) (r : Record) (ordered : in-order 0 image ≡ true)
 
     committed-all : (boards : List (List ℕ)) → Sequence (order (shape .boards) (depends r)) boards
         → (context : ℕ → List ℕ) → ((j : ℕ) → length (context j) ≡ shape .context) → (k : ℕ → ℕ)
-        → anyOf short (commits-due shape (view shape image) context k (order (shape .boards) (depends r)) boards) ≡ false
+        → anyOf short (commits-due shape (view shape image) context k (order (shape .boards) (depends r)) boards)
+        ≡ false
         → All-gone shape limit bound (view shape image) everybody image r
         (commits-due shape (view shape image) context k (order (shape .boards) (depends r)) boards)
     unfolding order

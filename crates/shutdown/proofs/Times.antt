@@ -1,5 +1,5 @@
 -- How often a board is in a list; lists of the boards of a set, each once.
-use Prim.Native.Nat.{ℕ, zero, suc, _+_, _^_, _≤_, _<_}
+use Prim.Native.Nat.{ℕ, zero, suc, _+_, _^_, _<_}
 use mathlib.Core.Path.{_≡_, refl, sym, _∙_, ap, ap₂}
 use mathlib.Core.Bool.{Bool, true, false, _&&_, not, cond, and-true as and-yes}
 use mathlib.Core.List.{List, [], _∷_, _++_, map}
@@ -8,11 +8,11 @@ use lib.Dec.{eqb, ltb, leb}
 use lib.ListN.{length}
 use native.Mathlib.Omega.{arith}
 use native.Mathlib.Nat.{add-zero, zero-add}
-use borrow.Author.Tests.{eqb-true, eqb-false, ne-eqb, ltb-true, ltb-false, lt-ltb, le-ltb, leb-false}
+use borrow.Author.Tests.{eqb-true, eqb-false, ne-eqb, ltb-true, lt-ltb, le-ltb, leb-false}
 use Rattle.boards.specs.Lists.{for, anyOf}
 use Rattle.boards.specs.Boards.{has}
-use Rattle.boards.proofs.Basics.{decide, clash, or-false, and-true, true-and, false-and, and-false, eqb-same, refute}
-use Rattle.boards.proofs.Basics.{test-ext, if-true, if-false, not-true}
+use Rattle.boards.proofs.Basics.{decide, or-false, and-true, true-and, false-and, and-false, eqb-same}
+use Rattle.boards.proofs.Basics.{test-ext}
 use Rattle.boards.proofs.Groups.{has-below, count, count-none, count-one-more}
 use Rattle.protocol.specs.Image.{Memory}
 use Rattle.protocol.specs.declared.Shape.{Shape}

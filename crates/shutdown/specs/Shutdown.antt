@@ -38,7 +38,8 @@ pub data Sequence : List ℕ → List (List ℕ) → Type 0 where
       → Sequence gs later
       → Sequence (g ∷ gs) (callers ∷ later)
 
--- There is such a list for any sets of sixteen boards, and whichever board of a set is to start, one that begins with it.
+-- There is such a list for any sets of sixteen boards, and, whichever board of a set is to start, one that begins with
+-- it.
 pub record Sequences-there : Type 0 where
   pub ascending : (gs : List ℕ) → anyOf (leb (2 ^ 16)) gs ≡ false → Sequence gs (map (λ g. those 16 (has g)) gs)
   pub any-start : (g i : ℕ) → g < 2 ^ 16 → has g i ≡ true
@@ -90,7 +91,8 @@ end-of image r [] = record { image = image; state = r }
 end-of image r (c ∷ cs) = let o = perform image r (c .request) (c .k) in end-of (o .image) (o .reply .next) cs
 
 -- There is a call for each board, and they are answered as is due: none refused or cut, each with its component as
--- group, each component's last one decides. At the end no link is left and, where no tag was above P, no block is tagged.
+-- group, each component's last one decides. At the end no link is left and, where no tag was above P, no block is
+-- tagged.
 pub record Committed (s : Shape) (image : List ℕ) (r : Record) (due : List Answered-call) : Type 0 where
   pub calls : length due ≡ s .boards
   pub answers : played image r (map call-of due) ≡ due

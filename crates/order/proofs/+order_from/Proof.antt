@@ -1,6 +1,6 @@
 -- The proof of `order_from`, which calls itself. The measure is the number of boards left.
 use Prim.Native.Nat.{ℕ, _<_, _^_, _+_}
-use mathlib.Core.Path.{_≡_, refl, sym, _∙_, subst}
+use mathlib.Core.Path.{_≡_, refl, _∙_, subst}
 use mir.Syntax.{w16}
 use mir.Val.{Fits}
 use lib.ListN.{length, length-set}
@@ -11,7 +11,7 @@ use borrow.Fn.Kinds.{In}
 use borrow.Fn.PlainCycle.{Measures, is, falls, and}
 use Rattle.boards.specs.Boards.{has}
 use Rattle.boards.specs.Rows.{links-of, minus}
-use Rattle.boards.proofs.Groups.{count, count-some, Bounded}
+use Rattle.boards.proofs.Groups.{count, Bounded}
 use Rattle.boards.proofs.sets.minus.Reads as minus-reads
 use Rattle.order.proofs.Next.{rows-bounded}
 use Rattle.order.proofs.Masks.{put-none, put-more, others-fewer, others-dependents}
@@ -135,7 +135,9 @@ module _ (t : ℕ) where
     order-from.Post,
   )
       (order-from-at t) order-from.Post
-  add-order-from c = record { fits = omega (arith, at-below (c .before .before), c .before .before .before .before .before .good .1 .1 .0 .0) }
+  add-order-from c =
+      let found = c .before .before in
+      record { fits = omega (arith, at-below found, found .before .before .before .good .1 .1 .0 .0) }
 
   order-from-requires : order-from-lts.Need-order-from-requires (
     next-component-reads.Asked,

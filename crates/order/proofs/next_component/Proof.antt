@@ -1,11 +1,10 @@
 -- `next_component` meets its contract: no board before the first that is ready may go next, and one may.
 use Prim.Native.Nat.{_-_, _≤_, _<_, ℕ}
-use mathlib.Core.Path.{_≡_, sym, _∙_, ap, subst}
+use mathlib.Core.Path.{_≡_, _∙_, ap}
 use mathlib.Core.Bool.{false}
 use mathlib.Core.Logic.{⊎-elim}
 use native.Mathlib.Omega.{arith}
 use borrow.Author.Needs.{needs}
-use Rattle.boards.specs.Boards.{Links}
 use Rattle.boards.specs.Rows.{links-of}
 use Rattle.boards.proofs.Basics.{below-suc}
 use Rattle.boards.proofs.Groups.{Bounded}

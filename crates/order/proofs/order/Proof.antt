@@ -1,5 +1,4 @@
 -- `order` meets its contract: refused by 11, 12 or 14, or the order of all boards in the masks.
-use Prim.Native.Nat.{_+_, _≤_}
 use mathlib.Core.Path.{_≡_, refl, sym, _∙_, ap, subst}
 use native.Mathlib.Omega.{arith}
 use borrow.Author.Needs.{needs}
@@ -24,7 +23,8 @@ returns c =
     let entered = asked .before .before in
     let args = entered .before .before .args in
     let image = now (args .image) in
-    let both = if-refused (entered .enter .ensures) (ap entry-says (asked .enum-told .given .1)) (c .before .number .ensures) in
+    let both =
+    if-refused (entered .enter .ensures) (ap entry-says (asked .enum-told .given .1)) (c .before .number .ensures) in
     refused-so image (args .state)
     (entry-stops image (args .state) (λ z. both .1 (sym (both .0) ∙ z)) ∙ both .0) (both .1) (c .refused .ensures)
 
@@ -46,7 +46,9 @@ returns-2 c =
     (omega arith) (c .refused2 .ensures)
 
 cast-all-boards : tie.Need-cast-all-boards
-cast-all-boards c = omega (arith, bounded (known (c .before .before .before .before .before) .1 .shaped .allowed-shape) .limits)
+cast-all-boards c =
+    let entered = c .before .before .before .before .before in
+    omega (arith, bounded (known entered .1 .shaped .allowed-shape) .limits)
 
 all-boards-requires : tie.Need-all-boards-requires
 all-boards-requires c κs =
@@ -77,9 +79,9 @@ returns-3 c =
     let passed = known entered in
     let most = bounded (passed .1 .shaped .allowed-shape) .limits .most-boards in
     let image = now (start .args .image) in
+    let free = c .before .before .before .before .before in
     let none =
-    all-passed image (start .args .state) (passed .0)
-    (omega (arith, c .before .before .before .before .before .if1 .left, c .before .before .before .before .before .before .engaged .ensures)) in
+    all-passed image (start .args .state) (passed .0) (omega (arith, free .if1 .left, free .before .engaged .ensures)) in
     taken-so image (start .args .state) (sixteen start) (passed .1 .shaped .shape) most (passed .1 .recorded) none
     (subst (λ g. Put-from (links-of (start .args .state .rows)) g 0 (now (start .args .masks)) (c .order-from .result)
     (c .order-from .last .1 .1 .0))

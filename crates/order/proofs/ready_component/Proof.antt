@@ -11,7 +11,8 @@ use Rattle.order.proofs.ready_component.Tie as tie
 returns : tie.Need-returns
 returns c =
     let a = c .before .before .args in
-    not-left (links-of (a .rows)) (a .left) (a .i) (sym (c .before .has .ensures) ∙ not-true (c .before .has .result) (c .if1 .taken))
+    not-left (links-of (a .rows)) (a .left) (a .i)
+    (sym (c .before .has .ensures) ∙ not-true (c .before .has .result) (c .if1 .taken))
 
 -- what the sets are
 module _ (c : tie.After-intersection2) where
@@ -33,15 +34,16 @@ module _ (c : tie.After-intersection2) where
 returns-2 : tie.Need-returns-2
 returns-2 c =
     let a = start (c .before) .args in
-    not-ready (d (c .before)) (a .left) (a .i) (asked (c .before) .commit-closure .ensures .members) (own-is (c .before))
-    (c .before .intersection2 .ensures) (c .if2 .taken)
+    not-ready (d (c .before)) (a .left) (a .i) (asked (c .before) .commit-closure .ensures .members)
+    (own-is (c .before)) (c .before .intersection2 .ensures) (c .if2 .taken)
 
 returns-3 : tie.Need-returns-3
 returns-3 c =
     let a = start (c .before) .args in
     let entered = asked (c .before) .before in
     is-ready (d (c .before)) (a .left) (a .i) (asked (c .before) .commit-closure .ensures .members) (own-is (c .before))
-    (c .before .intersection2 .ensures) (sym (entered .before .has .ensures) ∙ not-false (entered .before .has .result) (entered .if1 .left))
+    (c .before .intersection2 .ensures)
+    (sym (entered .before .has .ensures) ∙ not-false (entered .before .has .result) (entered .if1 .left))
     (c .if2 .left)
 
 pub ready-component-spec : {M : Type 1} → statement M

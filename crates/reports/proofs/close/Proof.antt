@@ -1,5 +1,4 @@
 -- `close` meets its contract: nothing, the totals, or the order.
-use mathlib.Core.Path.{subst}
 use native.Mathlib.Omega.{arith}
 use native.Mathlib.Nat.{sub-zero}
 use borrow.Author.Needs.{needs}
