@@ -11,8 +11,8 @@ use Rattle.boards.specs.Boards.{has, setOf, Links, Chain, here, step, commit-gr
 use Rattle.boards.specs.Rows.{minus}
 use Rattle.boards.proofs.Basics.{decide, clash, and-true, true-and, not-true, false-not, refute, test-ext}
 use Rattle.boards.proofs.Basics.{any-some, any-none}
-use Rattle.boards.proofs.Groups.{has-mask, has-below, has-ext, has-none, mask-below, count, larger-count, below-or}
-use Rattle.boards.proofs.Groups.{count-some}
+use Rattle.boards.proofs.Groups.{has-below, has-ext, has-none, mask-below, count, larger-count, below-or}
+use Rattle.boards.proofs.Groups.{count-some, words-by-members}
 use Rattle.boards.proofs.Groups.{Bounded, Backward, chain-join, backward-chain, in-commit-group, in-fault-group}
 use Rattle.boards.proofs.Groups.{commit-group-self, commit-group-small}
 use Rattle.components.specs.Components.{intersection, component, ready, lowest}
@@ -20,21 +20,18 @@ use Rattle.components.specs.Components.{intersection, component, ready, 
 -- ---- sets
 
 -- the boards of a set that is made by a test
-pub set-has : (p : ℕ → Bool) (j : ℕ) → has (setOf p) j ≡ true → (j < 16) × (p j ≡ true)
-set-has p j h = let l = has-below 16 (setOf p) j (mask-below 16 p) h in (l, sym (has-mask 16 p j l) ∙ h)
-
-pub has-set : (p : ℕ → Bool) (j : ℕ) → j < 16 → p j ≡ true → has (setOf p) j ≡ true
-has-set p j l e = has-mask 16 p j l ∙ e
+in-set : (p : ℕ → Bool) (j : ℕ) → (has (setOf p) j ≡ true) ↔ ((j < 16) × (p j ≡ true))
+in-set = words-by-members .set-of
 
 -- of the boards that are left without others
 pub minus-has : (g h j : ℕ) → has (minus g h) j ≡ true → (has g j ≡ true) × (has h j ≡ false)
 minus-has g h j e =
-    let both = and-true (has g j) (not (has h j)) (set-has (λ j. has g j && not (has h j)) j e .1) in
+    let both = and-true (has g j) (not (has h j)) (in-set (λ j. has g j && not (has h j)) j .0 e .1) in
     (both .0, not-true (has h j) (both .1))
 
 pub has-minus : (g h j : ℕ) → g < 2 ^ 16 → has g j ≡ true → has h j ≡ false → has (minus g h) j ≡ true
 has-minus g h j small e f =
-    has-set (λ j. has g j && not (has h j)) j (has-below 16 g j small e) (true-and e (false-not f))
+    in-set (λ j. has g j && not (has h j)) j .1 (has-below 16 g j small e, true-and e (false-not f))
 
 -- fewer are left without a board that was there
 pub minus-fewer : (g h i : ℕ) → i < 16 → has g i ≡ true → has h i ≡ true
@@ -96,12 +93,14 @@ module _ {d : Links} (b : Bounded 16 d) where
     in-component j =
         let both : ℕ → Bool = λ j. has (commit-group d i) j && has (fault-group d i) j in (
           λ h.
-              let s = and-true (has (commit-group d i) j) _ (set-has both j h .1) in
+              let s = and-true (has (commit-group d i) j) _ (in-set both j .0 h .1) in
               (in-commit-group b i l j .0 (s .0), in-fault-group b i l j .0 (s .1)),
           λ c.
               let reach = in-commit-group b i l j .1 (c .0) in
-              has-set both j (has-below 16 (commit-group d i) j (commit-group-small d i) reach)
-              (true-and reach (in-fault-group b i l j .1 (c .1))),
+              in-set both j .1 (
+                has-below 16 (commit-group d i) j (commit-group-small d i) reach,
+                true-and reach (in-fault-group b i l j .1 (c .1)),
+              ),
         )
 
     pub component-self : has (component d i) i ≡ true
@@ -131,7 +130,7 @@ module _ {d : Links} (b : Bounded 16 d) where
           stays = both .0;
           mutual-with = λ j c y.
               let reach = in-commit-group b i l j .1 c in
-              let inside = has-set (λ j. has (commit-group d i) j && has left j) j (left-below y) (true-and reach y) in
+              let inside = in-set (λ j. has (commit-group d i) j && has left j) j .1 (left-below y, true-and reach y) in
               in-component i l j .0 (sym (ap (λ g. has g j) same) ∙ inside) .1;
         }
 
@@ -145,12 +144,12 @@ module _ {d : Links} (b : Bounded 16 d) where
         (has-ext 16 (intersection (commit-group d i) left) (component d i) (mask-below 16 inside) (component-small i)
         (λ j k. test-ext _ _
         (λ y.
-        let s = and-true (has (commit-group d i) j) _ (set-has inside j y .1) in
+        let s = and-true (has (commit-group d i) j) _ (in-set inside j .0 y .1) in
         let c = in-commit-group b i l j .0 (s .0) in
         in-component i l j .1 (c, r .mutual-with j c (s .1)))
         (λ y.
         let c = in-component i l j .0 y in
-        has-set inside j k (true-and (in-commit-group b i l j .1 (c .0)) (backward-chain back (c .1) (r .stays)))))))
+        in-set inside j .1 (k, true-and (in-commit-group b i l j .1 (c .0)) (backward-chain back (c .1) (r .stays)))))))
 
     -- Some board may go next, if any is left: a board does, or it depends on one left that does not depend on it, whose
     -- commit group is smaller.
