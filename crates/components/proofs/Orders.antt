@@ -23,10 +23,10 @@ use Rattle.components.specs.Claims.{at, Depends-before, Orders, Sixteen-
 use Rattle.components.proofs.Ready.{minus-has, has-minus}
 use Rattle.components.proofs.Ready as next
 
--- a number has fewer bits than it counts
-below-power : (n : ℕ) → n < 2 ^ n
-below-power zero = omega arith
-below-power (suc n) = omega (arith, pow-suc 2 n, below-power n)
+-- every number is below two to its own power
+own-power : (n : ℕ) → n < 2 ^ n
+own-power zero = omega arith
+own-power (suc n) = omega (arith, pow-suc 2 n, own-power n)
 
 module _ {d : Links} (b : Bounded 16 d) {left : ℕ} (small : left < 2 ^ 16) (back : Backward (has left) d) where
   -- nobody is left
@@ -204,7 +204,7 @@ module _ {d : Links} (b : Bounded 16 d) {left : ℕ} (small : left < 2 ^ 16) (ba
       first-is : g ≡ gone
       first-is =
           has-ext (g + 16) g gone
-          (lt-of-lt-of-le (below-power g) (pow-mono {i = g} {j = g + 16} (omega arith)))
+          (lt-of-lt-of-le (own-power g) (pow-mono {i = g} {j = g + 16} (omega arith)))
           (lt-of-lt-of-le (next.component-small b i₀) (pow-mono {i = 16} {j = g + 16} (omega arith)))
           (λ j l. first-same j)
 
@@ -280,7 +280,7 @@ module _ (d : Links) (left : ℕ) where
   unfolding order-from
   order-some n some = rw some
 
-pub from-right : {d : Links} → Bounded 16 d → (n : ℕ) {left : ℕ} → left < 2 ^ 16 → Backward (has left) d
+from-right : {d : Links} → Bounded 16 d → (n : ℕ) {left : ℕ} → left < 2 ^ 16 → Backward (has left) d
     → count 16 (has left) ≤ n → Only d left (order-from d n left)
 from-right {d} b zero {left} small back few =
     let z = none-counted b small back few in

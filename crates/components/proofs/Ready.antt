@@ -34,7 +34,7 @@ has-minus g h j small e f =
     in-set (λ j. has g j && not (has h j)) j .1 (has-below 16 g j small e, true-and e (false-not f))
 
 -- fewer are left without a board that was there
-pub minus-fewer : (g h i : ℕ) → i < 16 → has g i ≡ true → has h i ≡ true
+minus-fewer : (g h i : ℕ) → i < 16 → has g i ≡ true → has h i ≡ true
     → count 16 (has (minus g h)) < count 16 (has g)
 minus-fewer g h i l e f =
     let more = larger-count 16 (has (minus g h)) (has g) (λ j y. minus-has g h j y .0) in
@@ -44,7 +44,7 @@ minus-fewer g h i l e f =
     (below-or (count 16 (has (minus g h))) (count 16 (has g)))
 
 -- a set that is not empty has a board
-pub has-some : (g : ℕ) → g < 2 ^ 16 → eqb g 0 ≡ false → (j : ℕ) × (j < 16) × (has g j ≡ true)
+has-some : (g : ℕ) → g < 2 ^ 16 → eqb g 0 ≡ false → (j : ℕ) × (j < 16) × (has g j ≡ true)
 has-some g small e =
     ⊎-elim
     (any-some 16 (has g))
@@ -88,7 +88,7 @@ lowest-least (suc n) p (suc i) e =
 
 module _ {d : Links} (b : Bounded 16 d) where
   module _ (i : ℕ) (l : i < 16) where
-    pub in-component : (j : ℕ) → (has (component d i) j ≡ true) ↔ (Chain d i j × Chain d j i)
+    in-component : (j : ℕ) → (has (component d i) j ≡ true) ↔ (Chain d i j × Chain d j i)
     unfolding component
     in-component j =
         let both : ℕ → Bool = λ j. has (commit-group d i) j && has (fault-group d i) j in (
@@ -120,7 +120,7 @@ module _ {d : Links} (b : Bounded 16 d) where
     pub left-below : {i : ℕ} → has left i ≡ true → i < 16
     left-below {i} e = has-below 16 left i small e
 
-    pub ready-says : (i : ℕ) → ready d left i ≡ true → Ready i
+    ready-says : (i : ℕ) → ready d left i ≡ true → Ready i
     unfolding ready
     ready-says i e =
         let both = and-true (has left i) _ e in
@@ -134,7 +134,7 @@ module _ {d : Links} (b : Bounded 16 d) where
               in-component i l j .0 (sym (ap (λ g. has g j) same) ∙ inside) .1;
         }
 
-    pub says-ready : (i : ℕ) → Ready i → ready d left i ≡ true
+    says-ready : (i : ℕ) → Ready i → ready d left i ≡ true
     unfolding ready
     says-ready i r =
         let l = left-below (r .stays) in
@@ -207,7 +207,7 @@ module _ {d : Links} (b : Bounded 16 d) where
           let (j, r) = find (count 16 (has (commit-group d i))) i e (omega arith) in
           lowest-holds 16 (ready d left) j (left-below (r .stays)) (says-ready j r)
 
-      pub next-below : next < 16
+      next-below : next < 16
       next-below = next-holds .0
 
       pub next-ready : Ready next

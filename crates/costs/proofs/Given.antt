@@ -80,7 +80,7 @@ module _ (s : Shape) (g : ℕ) (m₀ : Memory) where
           count-with (s .boards) (before .commit .acknowledged) i (group .few) (h .board) (h .awaited)
           ∙ ap suc (h .before-it .given)
 
-      pub context-length : length context-puts ≡ s .context
+      context-length : length context-puts ≡ s .context
       context-length = length-placing Tentative (i * s .context) context ∙ h .full
 
       context-tags : (b : ℕ) → tagged-in g (after context-puts m Tags b) ≡ tagged-in g (m₀ Tags b)

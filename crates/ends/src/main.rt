@@ -1,6 +1,6 @@
 // How a run ends: at the limit of 99,999 lines, whose last is cut, by errors of the system, a page at these and at its
-// limit of 9,999 commits, and an order. Each run is told in a line, and the last lines of some follow. The long events and what
-// is printed of them are files of the folder that the program is run in.
+// limit of 9,999 commits, and an order. Each run is told in a line, and the last lines of some follow. The long events
+// and what is printed of them are files of the folder that the program is run in.
 use reports::Task;
 use stream::Ended;
 ghost use Rattle.reports.specs.Tasks.{Fits};
@@ -43,8 +43,8 @@ fn write_commits(times: usize) {
     libc::close(fd);
 }
 
-// In line 99,999 board 0 comes to depend on board 1, and in line 100,000 neither would depend on the other any more; then
-// a line that is longer than two pieces of what is read.
+// In line 99,999 board 0 comes to depend on board 1, and in line 100,000 neither would depend on the other any more;
+// then a line that is longer than two pieces of what is read.
 fn write_late_links() {
     let fd = os::open_overwrite(b"links");
     io::write_all(fd, b"F,3,1,1,0\n");

@@ -19,10 +19,10 @@ use Rattle.listing.specs.Listing.{component-lines, order-text}
 
 module _ (image : List ℕ) (r : Record) {masks after : List ℕ} {a : Ordered} (h : Answers-order image r masks a after)
   where
-    pub status-is : a .status ≡ order-status image r
+    status-is : a .status ≡ order-status image r
     status-is = ap (λ x. x .status) (h .answer)
 
-    pub count-is : a .count ≡ length (components image r)
+    count-is : a .count ≡ length (components image r)
     count-is = ap (λ x. x .count) (h .answer)
 
     pub few : a .count ≤ 16

@@ -53,8 +53,8 @@ module _ (d : Links) (left i : ℕ) where
   unfolding ready
   not-left e = sym (if-false (component d i) 0 (false-and _ e))
 
-  module _ {ahead own some : ℕ} (e : ahead ≡ commit-group d i) (f : own ≡ intersection ahead (fault-group d i))
-      (g : some ≡ intersection ahead left)
+  module _ {needed own some : ℕ} (e : needed ≡ commit-group d i) (f : own ≡ intersection needed (fault-group d i))
+      (g : some ≡ intersection needed left)
     where
       own-is : own ≡ component d i
       unfolding component

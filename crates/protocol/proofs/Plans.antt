@@ -208,7 +208,7 @@ module _ (image : List ℕ) (r : Record) where
 
 -- ---- which put decides
 
-anyOf-append : {X : Type 0} (t : X → Bool) (xs ys : List X) → anyOf t (xs ++ ys) ≡ anyOf t xs || anyOf t ys
+pub anyOf-append : {X : Type 0} (t : X → Bool) (xs ys : List X) → anyOf t (xs ++ ys) ≡ anyOf t xs || anyOf t ys
 unfolding anyOf
 anyOf-append t [] ys = refl
 anyOf-append t (x ∷ xs) ys = ap (λ b. t x || b) (anyOf-append t xs ys) ∙ sym (or-assoc (t x) (anyOf t xs) (anyOf t ys))

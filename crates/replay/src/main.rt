@@ -1,7 +1,7 @@
 // Plays the event file of each name that the arguments give, read in pieces of several sizes, and compares what is
-// printed with what is stored. NAME stands for NAME.events, NAME.answers as `rsmrun` prints them, NAME.page as `rsmpage`
-// does and NAME.order as `rsmorder` does, in the folder that the program is run in; what is printed goes through a file
-// of that folder. A file that can't be read is not as expected.
+// printed with what is stored. NAME stands for NAME.events, NAME.answers as `rsmrun` prints them, NAME.page as
+// `rsmpage` does and NAME.order as `rsmorder` does, in the folder that the program is run in; what is printed goes
+// through a file of that folder. A file that can't be read is not as expected.
 use reports::Task;
 use stream::Ended;
 ghost use Prim.Native.Nat.{_+_, _≤_};

@@ -125,14 +125,14 @@ module _ (s : Shape) (limits : Limits s) (g : ℕ) (group : Grouped s g) (m₀ m
     -- the commit is open, n have acknowledged, tags and dependences are those of the start
     pub record Going (image : List ℕ) (r : Record) (n : ℕ) : Type 0 where
       pub opened : Open s g m₀ image r n
-      pub order : In-order s image r
+      pub sound : In-order s image r
       pub rows : depends r ≡ d
       pub tags : (b : ℕ) → view s image Tags b ≡ m Tags b
 
     -- the commit is completed: its rows and columns are empty, its blocks have no tag
     pub record Gone (image : List ℕ) (r : Record) : Type 0 where
       pub shape : shape-of image ≡ s
-      pub order : In-order s image r
+      pub sound : In-order s image r
       pub closed-now : engaged r ≡ 0
       pub rows : depends r ≡ unlink (has g) d
       pub tag-zero : (b : ℕ) → b < s .blocks → tagged-in g (m Tags b) ≡ true → view s image Tags b ≡ 0
@@ -209,7 +209,7 @@ module _ (s : Shape) (limits : Limits s) (g : ℕ) (group : Grouped s g) (m₀ m
               let a = some-answer s g m₀ group h e (k i) l in
               record {
                 opened = some-open s g m₀ group h e (k i) l;
-                order = done-leaves image r request (k i) (h .before-it .shape) small (ap (λ y. y .status) a);
+                sound = done-leaves image r request (k i) (h .before-it .shape) small (ap (λ y. y .status) a);
                 rows = ap depends (f .next ∙ some-next s g m₀ group h e) ∙ rows;
                 tags = λ b. ap (λ x. x Tags b) (f .memory ∙ stored) ∙ given-tags b;
               }
@@ -234,7 +234,7 @@ module _ (s : Shape) (limits : Limits s) (g : ℕ) (group : Grouped s g) (m₀ m
               let c = completed s (limits .some-size) m₁ g in
               record {
                 shape = f .sound .shape;
-                order = done-leaves image r request (k i) (h .before-it .shape) small (ap (λ y. y .status) a);
+                sound = done-leaves image r request (k i) (h .before-it .shape) small (ap (λ y. y .status) a);
                 closed-now = ap engaged next ∙ dropped;
                 rows =
                     ap depends next ∙ depends-clear now (subst (Bounded 16) (sym rows) b) g ∙ ap (unlink (has g)) rows;
@@ -304,7 +304,7 @@ module _ (s : Shape) (limits : Limits s) (g : ℕ) (group : Grouped s g) (m₀ m
     giving j js n image r w waits =
         let (member, awaited) = first-awaited g (group .small) (r .commit .acknowledged) j js waits in
         acknowledge-giving s g m₀ j (context j) (w .opened)
-        (acknowledge-taken s g m₀ group context full k image r j (w .opened) (w .order)
+        (acknowledge-taken s g m₀ group context full k image r j (w .opened) (w .sound)
         (group .below j member, member, awaited))
 
     -- the acknowledgements that are left
@@ -314,13 +314,13 @@ module _ (s : Shape) (limits : Limits s) (g : ℕ) (group : Grouped s g) (m₀ m
         → Completes image r (acknowledgements-due s m₀ context k g (j ∷ js))
     unfolding acknowledgements-due
     acknowledged [] j n image r w waits enough =
-        last-call j (giving j [] n image r w waits) (w .order .small) (w .rows) (w .tags) waits enough
+        last-call j (giving j [] n image r w waits) (w .sound .small) (w .rows) (w .tags) waits enough
     acknowledged (j′ ∷ js) j n image r w waits enough =
-        earlier-call j (giving j (j′ ∷ js) n image r w waits) (w .order .small) (w .rows) (w .tags) j′ js waits enough
+        earlier-call j (giving j (j′ ∷ js) n image r w waits) (w .sound .small) (w .rows) (w .tags) j′ js waits enough
         (acknowledged js j′ (suc n))
 
     -- the whole commit, from a state with none open, in which board i's commit group is g
-    module _ (image : List ℕ) (r : Record) (same : shape-of image ≡ s) (order : In-order s image r)
+    module _ (image : List ℕ) (r : Record) (same : shape-of image ≡ s) (sound : In-order s image r)
         (free : engaged r ≡ 0) (rows : depends r ≡ d) (start-tags : (b : ℕ) → view s image Tags b ≡ m Tags b)
         (old-tags : (b : ℕ) → tagged-in g (m Tags b) ≡ tagged-in g (m₀ Tags b))
       where
@@ -329,9 +329,9 @@ module _ (s : Shape) (limits : Limits s) (g : ℕ) (group : Grouped s g) (m₀ m
         unfolding refusals entry-tests start-tests first engaged
         start-taken i below =
             rw (
-              order .ordered,
+              sound .ordered,
               same,
-              order .recorded,
+              sound .recorded,
               lt-leb (s .boards) i below,
               eq-eqb (length (context i)) (s .context) (full i),
               free,
@@ -372,9 +372,9 @@ module _ (s : Shape) (limits : Limits s) (g : ℕ) (group : Grouped s g) (m₀ m
         committed (i ∷ []) each group-is enough =
             let waits = awaits-all g (i ∷ []) each in
             let member = first-awaited g (group .small) 0 i [] waits .0 in
-            last-call i (start-giving i member (group-is i member)) (order .small) rows start-tags waits enough
+            last-call i (start-giving i member (group-is i member)) (sound .small) rows start-tags waits enough
         committed (i ∷ j ∷ js) each group-is enough =
             let waits = awaits-all g (i ∷ j ∷ js) each in
             let member = first-awaited g (group .small) 0 i (j ∷ js) waits .0 in
-            earlier-call i (start-giving i member (group-is i member)) (order .small) rows start-tags j js waits enough
+            earlier-call i (start-giving i member (group-is i member)) (sound .small) rows start-tags j js waits enough
             (λ image r. acknowledged js j 1 image r)

@@ -1,10 +1,7 @@
 -- Calls made one after the other.
 use Prim.Native.Nat.{ℕ, _+_}
 use mathlib.Core.Path.{_≡_, refl, sym, _∙_, ap}
-use mathlib.Core.Bool.{Bool, false}
 use mathlib.Core.List.{List, [], _∷_, _++_, map, map-append, append-assoc, append-nil}
-use Rattle.boards.specs.Lists.{anyOf}
-use Rattle.boards.proofs.Basics.{or-false, false-or}
 use Rattle.volatile.specs.declared.Record.{Record}
 use Rattle.protocol.specs.Calls.{perform}
 use Rattle.protocol.specs.Claim.{Call}
@@ -63,13 +60,3 @@ module _ {image image′ : List ℕ} {r r′ : Record} {due : List Answered-call
   pub leads-end : end-of image r (map call-of due) ≡ record { image = image′; state = r′ }
   unfolding end-of
   leads-end = ap (end-of image r) (sym (append-nil (map call-of due))) ∙ p .ends []
-
--- a test over two lists
-pub any-both : {X : Type 0} (p : X → Bool) (xs ys : List X) → anyOf p (xs ++ ys) ≡ false
-    → (anyOf p xs ≡ false) × (anyOf p ys ≡ false)
-unfolding anyOf
-any-both p [] ys e = (refl, e)
-any-both p (x ∷ xs) ys e =
-    let one = or-false (p x) (anyOf p (xs ++ ys)) e in
-    let rest = any-both p xs ys (one .1) in
-    (false-or (one .0) (rest .0), rest .1)

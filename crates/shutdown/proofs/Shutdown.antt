@@ -12,7 +12,7 @@ use borrow.Author.Tests.{eqb-true, lt-ltb, ltb-true, ltb-false}
 use Rattle.boards.specs.Lists.{anyOf}
 use Rattle.boards.specs.Boards.{has, tagged-in, Links, Chain, here, step, unlink, commit-group}
 use Rattle.boards.specs.Rows.{minus}
-use Rattle.boards.proofs.Basics.{decide, clash, refute, test-ext, any-none, false-not, not-true, not-false}
+use Rattle.boards.proofs.Basics.{decide, clash, or-false, refute, test-ext, any-none, false-not, not-true, not-false}
 use Rattle.boards.proofs.Groups.{has-zero, has-ext, below-or, count, Bounded, bounded-more, Backward, Forward}
 use Rattle.boards.proofs.Groups.{unlink-true, true-unlink, unlink-bounded, links-ext, chain-join, chain-more}
 use Rattle.boards.proofs.Groups.{chain-outside-forward}
@@ -29,13 +29,14 @@ use Rattle.protocol.specs.Image.{Memory, Tags, size, shape-of, in-order, view}
 use Rattle.protocol.specs.Calls.{bad-tags}
 use Rattle.protocol.specs.declared.Shape.{Shape}
 use Rattle.protocol.proofs.Bridge.{Limits, limits, order-sound, view-past}
+use Rattle.protocol.proofs.Plans.{anyOf-append}
 use Rattle.costs.specs.Claims.{Answered-call}
 use Rattle.costs.proofs.Opened.{Grouped}
 use Rattle.costs.proofs.Completes.{In-order, none-acknowledged}
 use Rattle.shutdown.specs.Shutdown.{In-any-order, Sequence, ends, goes-on, commit-due}
 use Rattle.shutdown.specs.Shutdown.{commits-due}
 use Rattle.shutdown.specs.Shutdown.{Commits-in-order}
-use Rattle.shutdown.proofs.Runs.{Leads, leads-none, leads-then, leads-all, leads-end, any-both}
+use Rattle.shutdown.proofs.Runs.{Leads, leads-none, leads-then, leads-all, leads-end}
 use Rattle.shutdown.proofs.Times.{length-callers, length-commit, count-parts}
 use Rattle.shutdown.proofs.Member.{short, Gone, Completes, committed}
 
@@ -81,7 +82,7 @@ module _ (s : Shape) (limit : Limits s) {d : Links} (bound : Bounded (s .boards)
   -- a board that is gone
   record Standing (left : ℕ) (image : List ℕ) (r : Record) : Type 0 where
     shape : shape-of image ≡ s
-    order : In-order s image r
+    sound : In-order s image r
     free : engaged r ≡ 0
     rows : depends r ≡ unlink (λ j. not (has left j)) d
     tags : (x : ℕ) → (view s image Tags x ≡ m₀ Tags x)
@@ -187,7 +188,7 @@ module _ (s : Shape) (limit : Limits s) {d : Links} (bound : Bounded (s .boards)
               → anyOf short (commit-due s m₀ context k c boards) ≡ false
               → Completed-commit (commit-due s m₀ context k c boards)
           commit-so boards each enough =
-              committed s limit c grouped m₀ (view s image) among-bounded context full k image r (w .shape) (w .order)
+              committed s limit c grouped m₀ (view s image) among-bounded context full k image r (w .shape) (w .sound)
               (w .free) (w .rows) (λ x. refl) (old-tags w) boards each group-is enough
 
           still-standing : (image′ : List ℕ) (r′ : Record)
@@ -197,7 +198,7 @@ module _ (s : Shape) (limit : Limits s) {d : Links} (bound : Bounded (s .boards)
           still-standing image′ r′ g =
               record {
                 shape = g .shape;
-                order = g .order;
+                sound = g .sound;
                 free = g .closed-now;
                 rows = g .rows ∙ unlink-more left c small d;
                 tags = tags-now;
@@ -268,7 +269,8 @@ module _ (s : Shape) (limit : Limits s) {d : Links} (bound : Bounded (s .boards)
         unfolding commits-due
         next-gone gs others image r w _ (goes-on {callers = boards} {later = later} each sequence) enough =
             let own = commit-due s m₀ context k (c small back some) boards in
-            let both = any-both short own (commits-due s m₀ context k gs later) enough in
+            let due = commits-due s m₀ context k gs later in
+            let both = or-false (anyOf short own) (anyOf short due) (sym (anyOf-append short own due) ∙ enough) in
             let now = commit-so small back some below context full k w boards each (both .0) in
             let standing = still-standing small back some below context full k w _ _ (now .gone) in
             let more = others _ _ standing later sequence (both .1) in
@@ -336,7 +338,7 @@ module _ (image : List ℕ) (r : Record) (ordered : in-order 0 image ≡ true)
     at-first =
         record {
           shape = refl;
-          order =
+          sound =
               record {
                 ordered = ordered;
                 recorded = recorded;

@@ -45,7 +45,7 @@ module _ (p : ℕ → Bool) (j : ℕ) where
       go true = add-zero _ ∙ ap (λ t. cond t 1 0) (sym (and-yes (eqb n j)))
       go false = sym (ap (λ t. cond t 1 0) (and-false (eqb n j) refl))
 
-  pub times-those : (n : ℕ) → times j (those n p) ≡ cond (ltb j n && p j) 1 0
+  times-those : (n : ℕ) → times j (those n p) ≡ cond (ltb j n && p j) 1 0
   unfolding those for times
   times-those zero = sym (ap (λ t. cond t 1 0) (false-and (p j) (le-ltb j 0 (omega arith))))
   times-those (suc n) =

@@ -38,7 +38,7 @@ pub data Sequence : List ℕ → List (List ℕ) → Type 0 where
       → Sequence gs later
       → Sequence (g ∷ gs) (callers ∷ later)
 
--- There is such a list for any sets of sixteen boards, and, whichever board of a set is to start, one that begins with
+-- There is such a list for any sets of boards below 16, and, whichever board of a set is to start, one that begins with
 -- it.
 pub record Sequences-there : Type 0 where
   pub ascending : (gs : List ℕ) → anyOf (leb (2 ^ 16)) gs ≡ false → Sequence gs (map (λ g. those 16 (has g)) gs)

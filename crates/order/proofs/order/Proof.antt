@@ -81,7 +81,8 @@ returns-3 c =
     let image = now (start .args .image) in
     let free = c .before .before .before .before .before in
     let none =
-    all-passed image (start .args .state) (passed .0) (omega (arith, free .if1 .left, free .before .engaged .ensures)) in
+    all-passed image (start .args .state) (passed .0)
+    (omega (arith, free .if1 .left, free .before .engaged .ensures)) in
     taken-so image (start .args .state) (sixteen start) (passed .1 .shaped .shape) most (passed .1 .recorded) none
     (subst (λ g. Put-from (links-of (start .args .state .rows)) g 0 (now (start .args .masks)) (c .order-from .result)
     (c .order-from .last .1 .1 .0))
