@@ -1,5 +1,5 @@
 -- The proof of `order_from`, which calls itself. The measure is the number of boards left.
-use Prim.Native.Nat.{ℕ, _<_, _^_, _+_}
+use Prim.Native.Nat.{ℕ, _<_, _^_}
 use mathlib.Core.Path.{_≡_, refl, _∙_, subst}
 use mir.Syntax.{w16}
 use mir.Val.{Fits}
