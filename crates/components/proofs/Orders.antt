@@ -298,25 +298,13 @@ from-right {d} b (suc n) {left} small back few =
 
 -- ---- the claim
 
--- the boards below p, and dependences among them
-module _ {p : ℕ} (most : p ≤ 16) {d : Links} (b : Bounded p d) where
-  pub has-all : (j : ℕ) → has (all-boards p) j ≡ ltb j p
-  has-all j =
-      ⊎-elim
-      (has-mask 16 (λ j. ltb j p) j)
-      (λ l. has-beyond 16 (λ j. ltb j p) j l ∙ sym (le-ltb j p (omega arith)))
-      (below-or j 16)
-
-  pub all-back : Backward (has (all-boards p)) d
-  all-back = record { onto = λ x y h e. has-all x ∙ lt-ltb x p (b .ends x y e .0) }
-
--- there are p of them
+-- there are p numbers below p
 lower-counted : (p n : ℕ) → n ≤ p → count n (λ j. ltb j p) ≡ n
 unfolding count
 lower-counted p zero l = refl
 lower-counted p (suc n) l = rw (lt-ltb n p (omega arith)) (omega (arith, lower-counted p n (omega arith)))
 
-pub all-counted : (p n : ℕ) → p ≤ n → count n (λ j. ltb j p) ≡ p
+all-counted : (p n : ℕ) → p ≤ n → count n (λ j. ltb j p) ≡ p
 unfolding count
 all-counted p zero l = lower-counted p 0 (omega arith) ∙ omega arith
 all-counted p (suc n) l =
@@ -327,6 +315,21 @@ all-counted p (suc n) l =
   where
     more-counted : (p n : ℕ) → p ≤ n → count n (λ j. ltb j p) ≡ p → count (suc n) (λ j. ltb j p) ≡ p
     more-counted p n k e = rw (le-ltb n p k) (omega arith)
+
+-- the boards below p, and dependences among them
+module _ {p : ℕ} (most : p ≤ 16) where
+  pub has-all : (j : ℕ) → has (all-boards p) j ≡ ltb j p
+  has-all j =
+      ⊎-elim
+      (has-mask 16 (λ j. ltb j p) j)
+      (λ l. has-beyond 16 (λ j. ltb j p) j l ∙ sym (le-ltb j p (omega arith)))
+      (below-or j 16)
+
+  pub boards-counted : count 16 (has (all-boards p)) ≡ p
+  boards-counted = ap (count 16) (fun-ext has-all) ∙ all-counted p 16 most
+
+  pub all-back : {d : Links} → Bounded p d → Backward (has (all-boards p)) d
+  all-back b = record { onto = λ x y h e. has-all x ∙ lt-ltb x p (b .ends x y e .0) }
 
 -- a record that passes test 12 has dependences among the boards below P alone
 pub record-bounded : (p : ℕ) (r : Record) → bad-record p r ≡ false → Sixteen-boards r → Bounded p (depends r)
@@ -344,8 +347,8 @@ pub order-right : Order-right
 unfolding order
 order-right p r most e sixteen =
     let b = record-bounded p r e sixteen in
-    let all : has (all-boards p) ≡ (λ j. ltb j p) = fun-ext (has-all most b) in
-    let few : count 16 (has (all-boards p)) ≤ p = omega (arith, ap (count 16) all, all-counted p 16 most) in
+    let all : has (all-boards p) ≡ (λ j. ltb j p) = fun-ext (has-all most) in
+    let few : count 16 (has (all-boards p)) ≤ p = omega (arith, boards-counted most) in
     subst (λ q. Orders (depends r) q (order-from (depends r) p (all-boards p))
     × ((sets : List ℕ) → Orders (depends r) q sets → sets ≡ order-from (depends r) p (all-boards p)))
     all (from-right (bounded-more b most) p (mask-below 16 _) (all-back most b) few)

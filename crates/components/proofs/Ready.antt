@@ -33,15 +33,12 @@ pub has-minus : (g h j : ℕ) → g < 2 ^ 16 → has g j ≡ true → has h j �
 has-minus g h j small e f =
     in-set (λ j. has g j && not (has h j)) j .1 (has-below 16 g j small e, true-and e (false-not f))
 
--- fewer are left without a board that was there
-minus-fewer : (g h i : ℕ) → i < 16 → has g i ≡ true → has h i ≡ true
-    → count 16 (has (minus g h)) < count 16 (has g)
-minus-fewer g h i l e f =
-    let more = larger-count 16 (has (minus g h)) (has g) (λ j y. minus-has g h j y .0) in
-    ⊎-elim
-    (λ k. k)
-    (λ k. clash (more .1 k i l ∙ e) (refute (has (minus g h) i) (λ y. clash f (minus-has g h i y .1))))
-    (below-or (count 16 (has (minus g h))) (count 16 (has g)))
+-- a set inside another has fewer boards if it lacks one of that
+fewer-inside : (g h i : ℕ) → ((j : ℕ) → has g j ≡ true → has h j ≡ true) → i < 16 → has g i ≡ false → has h i ≡ true
+    → count 16 (has g) < count 16 (has h)
+fewer-inside g h i inside l lacks e =
+    let more = larger-count 16 (has g) (has h) inside in
+    ⊎-elim (λ k. k) (λ k. clash (more .1 k i l ∙ e) lacks) (below-or (count 16 (has g)) (count 16 (has h)))
 
 -- a set that is not empty has a board
 has-some : (g : ℕ) → g < 2 ^ 16 → eqb g 0 ≡ false → (j : ℕ) × (j < 16) × (has g j ≡ true)
@@ -171,14 +168,10 @@ module _ {d : Links} (b : Bounded 16 d) where
             let s = and-true (has left j) _ o in
             let t = and-true (has (commit-group d i) j) _ (s .1) in
             let c = in-commit-group b i l j .0 (t .0) in
-            let more =
-            larger-count 16 (has (commit-group d j)) (has (commit-group d i))
-            (λ h y. in-commit-group b i l h .1 (chain-join c (in-commit-group b j k h .0 y))) in
-            let own = commit-group-self d i l in
             let fewer =
-            ⊎-elim (λ q. q)
-            (λ q. clash (more .1 q i l ∙ own) (not-true (has (commit-group d j) i) (t .1)))
-            (below-or (count 16 (has (commit-group d j))) (count 16 (has (commit-group d i)))) in
+            fewer-inside (commit-group d j) (commit-group d i) i
+            (λ h y. in-commit-group b i l h .1 (chain-join c (in-commit-group b j k h .0 y))) l
+            (not-true (has (commit-group d j) i) (t .1)) (commit-group-self d i l) in
             smaller j (s .0) (omega (arith, fewer))
         go (inr none) smaller =
             let l = left-below e in (
@@ -233,7 +226,10 @@ module _ {d : Links} (b : Bounded 16 d) where
       rest-small = mask-below 16 _
 
       pub rest-fewer : count 16 (has rest) < count 16 (has left)
-      rest-fewer = minus-fewer left gone next next-below (next-ready .stays) (in-next next .1 (here, here))
+      rest-fewer =
+          let own = in-next next .1 (here, here) in
+          fewer-inside rest left next (λ j y. minus-has left gone j y .0) next-below
+          (refute (has rest next) (λ y. clash own (minus-has left gone next y .1))) (next-ready .stays)
 
       -- a board left that a board of the component depends on is in the component
       pub next-closed : (a j : ℕ) → has gone a ≡ true → Chain d a j → has left j ≡ true → has gone j ≡ true

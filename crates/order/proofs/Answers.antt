@@ -1,6 +1,6 @@
 -- What the call answers: refused, or the order of all boards.
 use Prim.Native.Nat.{ℕ, zero, suc, _≤_}
-use mathlib.Core.Path.{_≡_, refl, sym, _∙_, ap, fun-ext}
+use mathlib.Core.Path.{_≡_, refl, sym, _∙_, ap}
 use mathlib.Core.Bool.{Bool, true, false, not, cond}
 use mathlib.Core.List.{List, [], _∷_}
 use mathlib.Core.Logic.{⊎-elim, _≢_}
@@ -17,7 +17,7 @@ use Rattle.boards.proofs.Masks.{Sixteen}
 use Rattle.volatile.specs.Volatile.{depends, engaged, bad-record}
 use Rattle.volatile.specs.declared.Record.{Record}
 use Rattle.components.specs.Components.{component, ready, lowest, order-from, all-boards, order}
-use Rattle.components.proofs.Orders.{record-bounded, has-all, all-back, all-counted}
+use Rattle.components.proofs.Orders.{record-bounded, all-back, boards-counted}
 use Rattle.protocol.specs.Image.{in-order, shape-of}
 use Rattle.protocol.specs.Calls.{Test, test, first, entry-tests, filled}
 use Rattle.protocol.specs.declared.Shape.{Shape}
@@ -85,8 +85,7 @@ module _ (image : List ℕ) (r : Record) (rows : Sixteen (r .rows)) {s : Shape} 
     all-dependents = all-back most bounded .onto
 
     pub few-boards : count 16 (has (all-boards (s .boards))) ≤ s .boards
-    few-boards =
-        omega (arith, ap (count 16) (fun-ext (has-all most bounded)), all-counted (s .boards) 16 most)
+    few-boards = omega (arith, boards-counted most)
 
     pub taken-so : {n : ℕ} {a : Ordered} {masks after : List ℕ} → order-status image r ≡ 0
         → Put-from (links-of (r .rows)) (all-boards (s .boards)) 0 masks n after

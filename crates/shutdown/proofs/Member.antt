@@ -13,8 +13,7 @@ use borrow.Author.Tests.{lt-leb, eq-eqb, eqb-true, ltb-false}
 use Rattle.boards.specs.Lists.{anyOf}
 use Rattle.boards.specs.Boards.{has, with-board, meets, tagged-in, Links, unlink, commit-group}
 use Rattle.boards.proofs.Basics.{decide, clash, or-false, and-true, true-and, and-false, false-and, not-true, refute}
-use Rattle.boards.proofs.Basics.{test-ext}
-use Rattle.boards.proofs.Basics.{or-right}
+use Rattle.boards.proofs.Basics.{test-ext, or-right}
 use Rattle.boards.proofs.Groups.{Bounded, has-ext, has-with, has-small, has-zero, mask-below, meets-yes, below-or}
 use Rattle.boards.proofs.Groups.{has-none, count-none, count-some}
 use Rattle.volatile.specs.Volatile.{closed, depends, engaged, left-open, opened, clear, acknowledge}

@@ -1,6 +1,6 @@
 -- One component after the other commits, each with itself as group.
 use Prim.Native.Nat.{ℕ, zero, suc, _+_, _^_, _≤_, _<_}
-use mathlib.Core.Path.{_≡_, refl, sym, _∙_, ap, subst, fun-ext}
+use mathlib.Core.Path.{_≡_, refl, sym, _∙_, ap, subst}
 use mathlib.Core.Bool.{true, false, not}
 use mathlib.Core.List.{List, [], _∷_}
 use mathlib.Core.Logic.{_⊎_, inl, inr, ⊎-elim}
@@ -23,7 +23,7 @@ use Rattle.components.specs.Components.{component, order-from, all-boards, orde
 use Rattle.components.specs.Claims.{Sixteen-boards}
 use Rattle.components.proofs.Ready.{minus-has, has-minus}
 use Rattle.components.proofs.Ready as next
-use Rattle.components.proofs.Orders.{record-bounded, has-all, all-back, all-counted, none-counted}
+use Rattle.components.proofs.Orders.{record-bounded, has-all, all-back, boards-counted, none-counted}
 use Rattle.components.proofs.Orders.{order-none, order-some}
 use Rattle.protocol.specs.Image.{Memory, Tags, size, shape-of, in-order, view}
 use Rattle.protocol.specs.Calls.{bad-tags}
@@ -330,7 +330,7 @@ module _ (image : List ℕ) (r : Record) (ordered : in-order 0 image ≡ true)
     everybody = all-boards (shape .boards)
 
     is-board : (j : ℕ) → j < shape .boards → has everybody j ≡ true
-    is-board j l = has-all (limit .most-boards) bound j ∙ lt-ltb j (shape .boards) l
+    is-board j l = has-all (limit .most-boards) j ∙ lt-ltb j (shape .boards) l
 
     -- before the first call everybody has still to commit
     at-first : Standing shape limit bound (view shape image) everybody image r
@@ -361,11 +361,6 @@ module _ (image : List ℕ) (r : Record) (ordered : in-order 0 image ≡ true)
         low zero l = inl refl
         low (suc j) l = inr (is-board j l)
 
-    all-boards-counted : count 16 (has everybody) ≡ shape .boards
-    all-boards-counted =
-        ap (count 16) (fun-ext (has-all (limit .most-boards) bound))
-        ∙ all-counted (shape .boards) 16 (limit .most-boards)
-
     committed-all : (boards : List (List ℕ)) → Sequence (order (shape .boards) (depends r)) boards
         → (context : ℕ → List ℕ) → ((j : ℕ) → length (context j) ≡ shape .context) → (k : ℕ → ℕ)
         → anyOf short (commits-due shape (view shape image) context k (order (shape .boards) (depends r)) boards)
@@ -375,8 +370,8 @@ module _ (image : List ℕ) (r : Record) (ordered : in-order 0 image ≡ true)
     unfolding order
     committed-all boards sequence context full k enough =
         all-gone shape limit bound (view shape image) context full k (shape .boards) (mask-below 16 _)
-        (all-back (limit .most-boards) bound) (omega (arith, all-boards-counted))
-        (λ j h. ltb-true j (shape .boards) (sym (has-all (limit .most-boards) bound j) ∙ h))
+        (all-back (limit .most-boards) bound) (omega (arith, boards-counted (limit .most-boards)))
+        (λ j h. ltb-true j (shape .boards) (sym (has-all (limit .most-boards) j) ∙ h))
         image r at-first boards sequence enough
 
 pub commits-in-order : Commits-in-order
@@ -388,7 +383,7 @@ commits-in-order image r ordered recorded free sixteen boards sequence context f
     let stands = all .standing in
     let end = leads-end (all .leads) in
     record {
-      calls = all .many ∙ all-boards-counted image r ordered recorded free sixteen;
+      calls = all .many ∙ boards-counted (limits s (order-sound ordered .0 .allowed-shape) .most-boards);
       answers = leads-all (all .leads);
       unlinked = λ a b.
           ap (λ w. depends (w .state) a b) end ∙ ap (λ d. d a b) (stands .rows)
