@@ -100,7 +100,7 @@ below_suc i n h = go (eqb i n) refl
   where
     go : (b : Bool) → eqb i n ≡ b → (i < n) ⊎ (i ≡ n)
     go true e = inr (eqb-true i n e)
-    go false e = inl (omega (arith, borrow.Author.Tests.eqb_false i n e))
+    go false e = inl (omega (arith, borrow.Author.Tests.eqb-false i n e))
 
 pub every_at : (n : ℕ) (p : ℕ → Bool) → every n p ≡ true → (i : ℕ) → i < n → p i ≡ true
 unfolding every

@@ -1,3 +1,4 @@
+#![tactic(auto)]
 // Sets of boards, and the sixteen rows of dependences (document 01, "The record" and "Groups").
 pub mod rows;
 pub mod sets;
