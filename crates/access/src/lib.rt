@@ -1,3 +1,4 @@
+#![tactic(auto)]
 // Reads and writes, by a board and by the port.
 ghost use Rattle.std.specs.Prelude.{◌≡◌, ◌++◌, ◌+◌, ◌≤◌, ◌<◌, length};
 ghost use Rattle.volatile.specs.Volatile.{depend};

@@ -1,3 +1,4 @@
+#![tactic(auto)]
 // What a read and a write test, and where an access that is taken lies.
 ghost use Rattle.std.specs.Prelude.{◌≡◌, true, false, ◌+◌, ◌<◌, length};
 ghost use Rattle.protocol.specs.Image.{allowed};
@@ -16,14 +17,14 @@ use volatile::Record;
 const PORT_LIMIT: usize = 4;
 
 // A block by its number, with its tag.
-#[derive(Drop)]
+#[derive(Clone, Copy)]
 pub struct Block {
     pub number: usize,
     pub tag: u8,
 }
 
 // The board whose access it is; where it begins in the image; the first and the last block; their size.
-#[derive(Drop)]
+#[derive(Clone, Copy)]
 pub struct Place {
     pub board: u8,
     pub at: usize,
@@ -33,7 +34,7 @@ pub struct Place {
 }
 
 // What the tests of an access answer: the number of the refusal, or where it lies.
-#[derive(Drop)]
+#[derive(Clone, Copy)]
 pub enum Admission {
     Refused(u8),
     Taken(Place),

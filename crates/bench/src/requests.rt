@@ -5,7 +5,7 @@ use crate::letters::REMARK;
 use fields::{Field, read_number};
 
 // A letter and six numbers, 0 where the line has fewer; whether the second of them is the word `port`.
-#[derive(Drop)]
+#[derive(Clone, Copy)]
 pub struct Request {
     pub letter: u8,
     pub port: bool,
@@ -18,7 +18,7 @@ pub struct Request {
 }
 
 // A field of a request: its number, or that it is the word `port`; and where it ends.
-#[derive(Drop)]
+#[derive(Clone, Copy)]
 struct Place {
     value: usize,
     port: bool,

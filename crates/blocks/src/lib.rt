@@ -1,3 +1,4 @@
+#![tactic(auto)]
 // The loops that a commit, a fault and a power-up are made of. Every store is made by `store`.
 ghost use Rattle.std.specs.Prelude.{◌≡◌, true, cond, ◌⊎◌, ◌≢◌, ℕ, ◌+◌, ◌≤◌, ◌<◌, length, get_or};
 ghost use Rattle.boards.specs.Lists.{for};

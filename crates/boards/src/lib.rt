@@ -4,14 +4,14 @@ pub mod rows;
 pub mod sets;
 
 // Whom a block's tag names.
-#[derive(Drop)]
+#[derive(Clone, Copy)]
 pub enum Writer {
     Nobody,
     Board(u8),
 }
 
 // A group of boards, and the rows when its rows and columns are emptied.
-#[derive(Drop)]
+#[derive(Clone, Copy)]
 pub struct Closure {
     pub members: u16,
     pub rows: [u16; 16],

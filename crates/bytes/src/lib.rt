@@ -1,3 +1,4 @@
+#![tactic(auto)]
 // The bytes of an event line, read as an enum.
 ghost use Rattle.std.specs.Prelude.{◌≡◌, true, ◌*◌, ◌≤◌, length};
 ghost use Rattle.protocol.specs.Calls.{filled};

@@ -11,14 +11,14 @@ use text::{ACKNOWLEDGE, FAULT, FORMAT, POWER_UP, READ, START, WRITE};
 use volatile::Record;
 
 // What stands between two requests: the record, and what lines have set.
-#[derive(Drop)]
+#[derive(Clone, Copy)]
 pub struct Bench {
     pub state: Record,
     pub settings: Settings,
 }
 
 // The length of the image that is lent, and whether the lines of a call cut at every k end in the image.
-#[derive(Drop)]
+#[derive(Clone, Copy)]
 pub struct Settings {
     pub length: usize,
     pub shown: bool,

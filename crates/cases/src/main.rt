@@ -1,3 +1,4 @@
+#![tactic(auto)]
 // Plays the requests of standard input on the module and writes each with its answer. A request is a line: a letter
 // and numbers of 0 to 65,535 without leading zeros, parted by commas, the first of which is the allowance k. Lines that
 // begin with '#' are remarks.

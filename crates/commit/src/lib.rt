@@ -1,3 +1,4 @@
+#![tactic(auto)]
 // The calls of a commit: its start, and the acknowledgements of its members, the last of which decides it.
 ghost use Rattle.std.specs.Prelude.{length};
 ghost use Rattle.protocol.specs.Calls.{Start, Acknowledge, first, refusal_at};

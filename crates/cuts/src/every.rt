@@ -14,7 +14,7 @@ use volatile::Record;
 const ENOUGH: usize = 99999;
 
 // How often the recovery state came out as before the call, as after it, or as neither.
-#[derive(Drop)]
+#[derive(Clone, Copy)]
 struct Tally {
     before: usize,
     after: usize,

@@ -1,3 +1,4 @@
+#![tactic(auto)]
 // The end of a start and of an acknowledgement: the context is stored and, when all members have acknowledged, the
 // commit is decided and completed.
 ghost use Rattle.std.specs.Prelude.{◌≡◌, true, [], ◌∷◌, ◌%◌, ◌/◌, ◌<◌, length};

@@ -1,3 +1,4 @@
+#![tactic(auto)]
 // Numbers and bytes as text, written into a lent buffer from a place on.
 ghost use Rattle.std.specs.Prelude.{◌≡◌, [], ◌∷◌, ◌+◌, ◌*◌, ◌≤◌, ◌<◌, length};
 ghost use Rattle.text.specs.Rows.{digit_at, decimal, hexadecimal, byte_text, bytes_text, group_text};

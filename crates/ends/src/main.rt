@@ -1,3 +1,4 @@
+#![tactic(auto)]
 // How a run ends: at the limit of 99,999 lines, whose last is cut, by errors of the system, a page at these and at its
 // limit of 9,999 commits, and an order. Each run is told in a line, and the last lines of some follow. The long events
 // and what is printed of them are files of the folder that the program is run in.

@@ -1,3 +1,4 @@
+#![tactic(auto)]
 // What the calls of a board test before anything else, in the stated order, and what a call that passes then knows.
 pub mod checks;
 
@@ -13,7 +14,7 @@ use protocol::{Requester, Shape};
 use volatile::Record;
 
 // What tests answer: the number of the refusal, or, for a call that they take, the image's shape.
-#[derive(Drop)]
+#[derive(Clone, Copy)]
 pub enum Entry {
     Refused(u8),
     Taken(Shape),

@@ -1,3 +1,4 @@
+#![tactic(auto)]
 // A line of events taken apart: its letter, the numbers behind it, and the bytes that the lines of some letters end in.
 ghost use Rattle.std.specs.Prelude.{◌≡◌, true, false, List, ℕ, ◌≤◌, length, take};
 ghost use Rattle.text.specs.Fields.{before};

@@ -1,3 +1,4 @@
+#![tactic(auto)]
 // The fault of a board, which rolls back all who depend on it.
 ghost use Rattle.protocol.specs.Calls.{Fault};
 ghost use Rattle.store.specs.Promise.{Performed};

@@ -1,3 +1,4 @@
+#![tactic(auto)]
 // The lines of one piece of input, played and printed as a task says, behind what is kept of the pieces before it.
 ghost use Rattle.std.specs.Prelude.{◌≤◌, length, take};
 ghost use Rattle.reports.specs.Tasks.{state_of, Fits};
@@ -10,7 +11,7 @@ use reports::{Task, step};
 const ROOM: usize = 320;
 
 // The task after the lines of a piece, how much of the piece they are, how much output they gave, and why they stopped.
-#[derive(Drop)]
+#[derive(Clone, Copy)]
 pub struct Progress {
     pub task: Task,
     pub read: usize,
@@ -20,7 +21,7 @@ pub struct Progress {
 
 // The task after the whole lines of a piece, how many characters are kept at the input's start, how much output there
 // is, and why the lines stopped: with `Full` there are more to play in what is kept.
-#[derive(Drop)]
+#[derive(Clone, Copy)]
 pub struct Fed {
     pub task: Task,
     pub held: usize,

@@ -1,3 +1,4 @@
+#![tactic(auto)]
 // The letter and the numbers of an event line, read: each as an enum.
 ghost use Rattle.std.specs.Prelude.{◌≡◌, ◌≤◌, eqb, length};
 ghost use Rattle.text.specs.Fields.{until, before, Value, number_from, number_of};
@@ -7,14 +8,14 @@ ghost use Rattle.fields.specs.Numbers.{measured, Numbered};
 use text::{Letter, TABLE, UNREADABLE};
 
 // A field read as a number, with its length; or it is another.
-#[derive(Drop)]
+#[derive(Clone, Copy)]
 pub enum Field {
     Number(usize, usize),
     Other,
 }
 
 // The numbers behind a line's letter, as many as are due, and where the last field that was read ends.
-#[derive(Drop)]
+#[derive(Clone, Copy)]
 pub struct Values {
     pub first: usize,
     pub second: usize,
@@ -24,7 +25,7 @@ pub struct Values {
 }
 
 // These numbers; or one of them is missing or is none, and the line is refused.
-#[derive(Drop)]
+#[derive(Clone, Copy)]
 pub enum Numbers {
     All(Values),
     Refused(u8),

@@ -1,3 +1,4 @@
+#![tactic(auto)]
 // Forecasts: what a commit that a board starts next, or a fault of it made next, will answer and store (document 02,
 // Req 02). Nothing is stored, and the record stays as it is.
 ghost use Rattle.std.specs.Prelude.{◌≡◌, true, cond, ◌+◌, ◌<◌, length};

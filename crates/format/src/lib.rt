@@ -1,3 +1,4 @@
+#![tactic(auto)]
 // Formatting: the public call that makes an image of a shape. Every store is made by `store`.
 ghost use Rattle.std.specs.Prelude.{◌≡◌, true, ◌-◌, ◌≤◌, length};
 ghost use Rattle.protocol.specs.Image.{allowed, total};

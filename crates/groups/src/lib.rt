@@ -1,3 +1,4 @@
+#![tactic(auto)]
 // The search of groups: from the sixteen rows taken as one value, which come back emptied (document 01, "Groups"). Each
 // board of the group has its row, or its column, added once (document 02, Req 04).
 ghost use Rattle.std.specs.Prelude.{◌≡◌, true, false, suc, ◌<◌};
@@ -10,7 +11,7 @@ use boards::rows::without;
 use boards::{Closure, sets};
 
 // How far a search is: the boards gathered, those of them whose row or column was added, and how many were added.
-#[derive(Drop)]
+#[derive(Clone, Copy)]
 struct Progress {
     members: u16,
     added: u16,
@@ -18,7 +19,7 @@ struct Progress {
 }
 
 // What a search hands back: the group and the rows emptied, and how many rows or columns it added.
-#[derive(Drop)]
+#[derive(Clone, Copy)]
 pub struct Found {
     pub closure: Closure,
     pub count: u16,

@@ -1,3 +1,4 @@
+#![tactic(auto)]
 // The two calls that only look at images: a board's recovery context, and whether two images are the same.
 ghost use Rattle.std.specs.Prelude.{◌≡◌, true, [], ◌+◌, ◌≤◌, length};
 ghost use Rattle.protocol.specs.Image.{allowed, total, view};
@@ -35,7 +36,7 @@ pub fn context<'a>(image: &'a [u8], board: usize, status: &mut u8) -> &'a [u8]
 }
 
 // What comparing two images answers: 0 or the number of the refusal, and whether they are the same.
-#[derive(Drop)]
+#[derive(Clone, Copy)]
 pub struct Compared {
     pub status: u8,
     pub same: bool,

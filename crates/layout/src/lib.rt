@@ -1,3 +1,4 @@
+#![tactic(auto)]
 // Where the areas of an image stand, and whether its header is in order (document 01, "The image"). Stores nothing.
 ghost use Rattle.std.specs.Prelude.{◌≡◌, true, ◌/◌, ◌≤◌, eqb, length, get_or};
 ghost use Rattle.boards.specs.Lists.{every};
@@ -142,7 +143,7 @@ pub fn total(s: Shape) -> usize
 }
 
 // An image in order, with the shape that its header names, or one that is not.
-#[derive(Drop)]
+#[derive(Clone, Copy)]
 pub enum Header {
     InOrder(Shape),
     Disordered,

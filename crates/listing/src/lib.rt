@@ -1,3 +1,4 @@
+#![tactic(auto)]
 // The order of the boards' components, written into a lent buffer from a place on.
 ghost use Rattle.std.specs.Prelude.{◌+◌, ◌*◌, ◌≤◌, length, take};
 ghost use Rattle.digits.specs.Append.{Appends};

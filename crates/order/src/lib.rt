@@ -1,3 +1,4 @@
+#![tactic(auto)]
 // In which order the boards shall commit (document 02, Req 07): the strongly connected components of the dependences,
 // each after all that it depends on. Nothing is stored, and the record stays as it is.
 ghost use Rattle.std.specs.Prelude.{◌≡◌, cond, ◌+◌, ◌≤◌, ◌<◌, length};
@@ -13,7 +14,7 @@ use groups::{commit_closure, fault_closure};
 use volatile::Record;
 
 // 0 or the number of the refusal; how many components there are, 0 if refused.
-#[derive(Drop)]
+#[derive(Clone, Copy)]
 pub struct Ordered {
     pub status: u8,
     pub count: usize,

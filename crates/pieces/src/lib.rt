@@ -1,3 +1,4 @@
+#![tactic(auto)]
 // An input that is read piece by piece: what an answer of the system means, where the next line ends, what is kept.
 ghost use Rattle.std.specs.Prelude.{◌≡◌, ◌+◌, ◌≤◌, length, take, drop};
 ghost use Rattle.pieces.specs.Answers.{meaning};
@@ -7,7 +8,7 @@ use fields::find;
 
 // Where the text that is to be played next ends; or there is none: at the input's end, since no next line is played, or
 // because a read failed.
-#[derive(Drop)]
+#[derive(Clone, Copy)]
 pub enum Got {
     Text(usize),
     End,
@@ -15,7 +16,7 @@ pub enum Got {
 }
 
 // Where the next whole line of a piece ends; or none of its line feeds is left.
-#[derive(Drop)]
+#[derive(Clone, Copy)]
 pub enum NextLine {
     EndsAt(usize),
     Unfinished,
@@ -23,7 +24,7 @@ pub enum NextLine {
 
 // Why the lines of a piece stop: no line feed is left in it, the output has no room for one more line, or the program
 // ends before the next line.
-#[derive(Drop)]
+#[derive(Clone, Copy)]
 pub enum Stop {
     Unfinished,
     Full,

@@ -1,3 +1,4 @@
+#![tactic(auto)]
 // Plays an event on image, record and pending allowance.
 ghost use Rattle.std.specs.Prelude.{◌≡◌, List, ℕ, ◌≤◌, length, take, replicate};
 ghost use Rattle.protocol.specs.Calls.{perform, Read};

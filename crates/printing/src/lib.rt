@@ -1,3 +1,4 @@
+#![tactic(auto)]
 // Output lines, written into a lent buffer from a place on.
 ghost use Rattle.std.specs.Prelude.{◌+◌, ◌*◌, ◌≤◌, length};
 ghost use Rattle.text.specs.Rows.{row_text, rows_text, rows_meant};

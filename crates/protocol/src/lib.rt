@@ -1,8 +1,9 @@
+#![tactic(auto)]
 // The types that the definitions in specs/ and the promises of the module share.
 use volatile::Record;
 
 // P boards, blocks of S bytes, B blocks, K context bytes a board (document 01, "The image").
-#[derive(Drop)]
+#[derive(Clone, Copy)]
 pub struct Shape {
     pub boards: usize,
     pub size: usize,
@@ -11,7 +12,7 @@ pub struct Shape {
 }
 
 // Who makes an access: a board, by its number, or the fitter's port (document 02, Req 03).
-#[derive(Drop)]
+#[derive(Clone, Copy)]
 pub enum Requester {
     Board(usize),
     Port,
@@ -19,7 +20,7 @@ pub enum Requester {
 
 // How an access of board i binds it and another board j, the block's active writer: i comes to depend on j, each on the
 // other, or j on i (document 004's "opposite dependency").
-#[derive(Drop)]
+#[derive(Clone, Copy)]
 pub enum Binding {
     OneWay,
     TwoWay,
@@ -28,7 +29,7 @@ pub enum Binding {
 
 // What a call answers: 0 for done, 9 for cut or the number of its refusal; whether it decided a commit;
 // the members of the commit or the boards rolled back; how many bytes it stored.
-#[derive(Drop)]
+#[derive(Clone, Copy)]
 pub struct Answer {
     pub status: u8,
     pub decided: bool,
@@ -37,7 +38,7 @@ pub struct Answer {
 }
 
 // The answer of a call and the record that follows it.
-#[derive(Drop)]
+#[derive(Clone, Copy)]
 pub struct Reply {
     pub answer: Answer,
     pub next: Record,

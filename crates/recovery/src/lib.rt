@@ -1,3 +1,4 @@
+#![tactic(auto)]
 // Power-up: a decided commit is completed, then every block still tagged is rolled back.
 ghost use Rattle.std.specs.Prelude.{◌≡◌, true, ◌+◌, ◌*◌, ◌≤◌, length};
 ghost use Rattle.protocol.specs.Image.{allowed, total, view, shape_of};
@@ -20,7 +21,7 @@ use store::answers::{finish, refusal};
 use volatile::Record;
 
 // What an image decides: the commit of this group, or nothing.
-#[derive(Drop)]
+#[derive(Clone, Copy)]
 enum Decided {
     Members(u16),
     Nothing,

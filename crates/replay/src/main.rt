@@ -1,3 +1,4 @@
+#![tactic(auto)]
 // Plays the event file of each name that the arguments give, read in pieces of several sizes, and compares what is
 // printed with what is stored. NAME stands for NAME.events, NAME.answers as `rsmrun` prints them, NAME.page as
 // `rsmpage` does and NAME.order as `rsmorder` does, in the folder that the program is run in; what is printed goes
@@ -9,7 +10,7 @@ use reports::Task;
 use stream::Ended;
 
 // What was read of a file, and whether that is all of it.
-#[derive(Drop)]
+#[derive(Clone, Copy)]
 struct Got {
     length: usize,
     whole: bool,

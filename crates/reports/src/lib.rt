@@ -1,3 +1,4 @@
+#![tactic(auto)]
 // What a program prints of the lines that it plays: their rows, as `rsmrun` does, a page, as `rsmpage` does, or, after
 // the last line, the boards' order, as `rsmorder` does. A line is played in one way, whatever is printed of it.
 ghost use Rattle.std.specs.Prelude.{◌≡◌, List, ℕ, ◌+◌, ◌≤◌, length};
@@ -22,7 +23,7 @@ use text::Parsed;
 use turns::Session;
 
 // The rows of each line, a line of the page for each decided commit, or the order alone.
-#[derive(Drop)]
+#[derive(Clone, Copy)]
 pub enum Report {
     Rows,
     Page(Totals),
@@ -30,14 +31,14 @@ pub enum Report {
 }
 
 // A run, and what is printed of it.
-#[derive(Drop)]
+#[derive(Clone, Copy)]
 pub struct Task {
     pub run: Run,
     pub report: Report,
 }
 
 // The task after a line, and where its text ends in the output.
-#[derive(Drop)]
+#[derive(Clone, Copy)]
 pub struct Stepped {
     pub task: Task,
     pub written: usize,

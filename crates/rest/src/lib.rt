@@ -1,3 +1,4 @@
+#![tactic(auto)]
 // What a task plays and prints when no text comes any more.
 ghost use Rattle.std.specs.Prelude.{◌≡◌, ◌≤◌, length, take};
 ghost use Rattle.text.specs.Whole.{lines, output_by};

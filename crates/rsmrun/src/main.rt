@@ -1,3 +1,4 @@
+#![tactic(auto)]
 // Plays the event lines of standard input, to its end or for 99,999 lines, and writes their answers to standard output.
 // There is no exit status: an error of the system is told in one line on standard error.
 use reports::Task;

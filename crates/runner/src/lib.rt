@@ -1,3 +1,4 @@
+#![tactic(auto)]
 // A line of a run that was taken apart, played; what stands between two lines of a run; how many it takes.
 ghost use Rattle.std.specs.Prelude.{◌≡◌, List, ℕ, ◌≤◌, ◌<◌, length};
 ghost use Rattle.text.specs.Events.{meant, counted};
@@ -14,14 +15,14 @@ use volatile::Record;
 pub const MOST_LINES: usize = 99999;
 
 // How many lines were played, and what stands between two lines.
-#[derive(Drop)]
+#[derive(Clone, Copy)]
 pub struct Run {
     pub played: usize,
     pub session: Session,
 }
 
 // The run after a line, and the rows of that line.
-#[derive(Drop)]
+#[derive(Clone, Copy)]
 pub struct Played {
     pub run: Run,
     pub rows: Rows,

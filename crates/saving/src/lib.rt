@@ -1,3 +1,4 @@
+#![tactic(auto)]
 // Before a line is played: the commit that it will decide, if it decides one, and what that saves (document 02, Req
 // 05). Afterwards the tags are gone and, if the call was cut, the record too.
 ghost use Rattle.std.specs.Prelude.{◌≡◌, true, ◌≤◌, length};

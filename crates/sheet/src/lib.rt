@@ -1,3 +1,4 @@
+#![tactic(auto)]
 // The lines of a page, written into a lent buffer from a place on, and its totals.
 ghost use Rattle.std.specs.Prelude.{◌≡◌, cond, ◌+◌, ◌%◌, ◌≤◌, eqb, length};
 ghost use Rattle.digits.specs.Append.{Appends};
@@ -14,7 +15,7 @@ pub const MOST_COMMITS: usize = 9999;
 pub const FULL: u8 = 18;
 
 // The totals with a commit, and 0, or 18 where it is not to be printed and was not summed.
-#[derive(Drop)]
+#[derive(Clone, Copy)]
 pub struct Added {
     pub status: u8,
     pub totals: Totals,

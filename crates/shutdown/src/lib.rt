@@ -1,1 +1,2 @@
+#![tactic(auto)]
 // What committing in the order of components does: definitions and proofs alone, no code.

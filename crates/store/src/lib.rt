@@ -1,3 +1,4 @@
+#![tactic(auto)]
 // The one function that stores a byte of the image, and the leaves that store runs of bytes with it.
 pub mod answers;
 
@@ -6,7 +7,7 @@ ghost use Rattle.store.specs.Budget.{Makes, one, start};
 ghost use Rattle.store.specs.Runs.{put_stores, copy_stores, shifted};
 
 // How many stores are left, and whether one was refused for want of them.
-#[derive(Drop)]
+#[derive(Clone, Copy)]
 pub struct Budget {
     pub left: usize,
     pub cut: bool,

@@ -1,3 +1,4 @@
+#![tactic(auto)]
 // Event lines from one open file, what is printed of them to another.
 ghost use Rattle.std.specs.Prelude.{◌+◌, ◌≤◌, length};
 ghost use Rattle.pieces.specs.Pieces.{Kept};
@@ -11,7 +12,7 @@ use reports::Task;
 use rest::play_rest;
 
 // How playing ended: all was played and written, or a read or a write failed.
-#[derive(Drop)]
+#[derive(Clone, Copy)]
 pub enum Ended {
     Played,
     InputFailed,

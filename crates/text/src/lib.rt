@@ -1,3 +1,4 @@
+#![tactic(auto)]
 // Event lines: the letters, what the fields of a line are read as, and the rows that a line gives.
 use protocol::{Answer, Shape};
 
@@ -24,7 +25,7 @@ pub const UNKNOWN: u8 = b'?';
 pub const UNREADABLE: u8 = 6;
 
 // A letter and how many commas its lines have.
-#[derive(Drop)]
+#[derive(Clone, Copy)]
 pub struct Listing {
     pub letter: u8,
     pub commas: u8,
@@ -67,14 +68,14 @@ pub const TABLE: [Listing; 8] = [
 ];
 
 // A field read as a letter of the table, with its commas.
-#[derive(Drop)]
+#[derive(Clone, Copy)]
 pub enum Letter {
     Listed(u8, u8),
     Unlisted,
 }
 
 // A field read as pairs of hexadecimal digits: how many bytes, which stand in a buffer.
-#[derive(Drop)]
+#[derive(Clone, Copy)]
 pub enum Bytes {
     Count(usize),
     Malformed,
@@ -82,7 +83,7 @@ pub enum Bytes {
 
 // A line taken apart, or the number of its refusal. The bytes of a write and of a context stand in a buffer, `count` of
 // them.
-#[derive(Drop)]
+#[derive(Clone, Copy)]
 pub enum Parsed {
     Format {
         shape: Shape,
@@ -116,7 +117,7 @@ pub enum Parsed {
 }
 
 // A row: its letter, what was answered, and how many bytes were read, which stand in a buffer.
-#[derive(Drop)]
+#[derive(Clone, Copy)]
 pub struct Row {
     pub letter: u8,
     pub answer: Answer,
@@ -124,14 +125,14 @@ pub struct Row {
 }
 
 // What follows a line's row: nothing or, after a cut, the row of the power-up.
-#[derive(Drop)]
+#[derive(Clone, Copy)]
 pub enum Follows {
     Nothing,
     PowerUp(Answer),
 }
 
 // The rows of a line.
-#[derive(Drop)]
+#[derive(Clone, Copy)]
 pub struct Rows {
     pub first: Row,
     pub after: Follows,

@@ -1,3 +1,4 @@
+#![tactic(auto)]
 // How a line's turn ends: its rows, the power-up after a cut, and what stands between two lines.
 ghost use Rattle.std.specs.Prelude.{◌≡◌, cond, List, ℕ, ◌≤◌, eqb, length, take};
 ghost use Rattle.volatile.specs.declared.Record.{Record as State};
@@ -15,7 +16,7 @@ use volatile::Record;
 pub const UNCUT: usize = 65535;
 
 // What stands between two lines: the image's length in its area, the record, the allowance of the next line.
-#[derive(Drop)]
+#[derive(Clone, Copy)]
 pub struct Session {
     pub length: usize,
     pub state: Record,
@@ -23,7 +24,7 @@ pub struct Session {
 }
 
 // The next session, and the rows of the line.
-#[derive(Drop)]
+#[derive(Clone, Copy)]
 pub struct Turned {
     pub next: Session,
     pub rows: Rows,

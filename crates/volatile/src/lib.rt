@@ -1,3 +1,4 @@
+#![tactic(auto)]
 // The volatile record (document 01, "The record"): its methods hand the next record back.
 ghost use Rattle.std.specs.Prelude.{◌≡◌, ◌<◌};
 ghost use Rattle.boards.specs.Rows.{emptied};
@@ -7,7 +8,7 @@ ghost use Rattle.volatile.specs.Volatile.{depend, clear, acknowledge, start};
 use boards::{Closure, sets};
 
 // A commit: who started it, who takes part, who has acknowledged. Open while it has members, else all zero.
-#[derive(Drop)]
+#[derive(Clone, Copy)]
 pub struct Commit {
     pub starter: u8,
     pub members: u16,
@@ -28,7 +29,7 @@ impl Commit {
 }
 
 // The volatile record (document 01, "The record"): bit j of row i says that board i depends on board j.
-#[derive(Drop)]
+#[derive(Clone, Copy)]
 pub struct Record {
     pub on: bool,
     pub rows: [u16; 16],
