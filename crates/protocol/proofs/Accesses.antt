@@ -141,6 +141,7 @@ tie_back Opposite d i j w = link_new d j i
 bind_from : (how : Binding) (d : Links) (i t m : ℕ) → goes_forth how ≡ true → From d m t
     → Chain (bind_tag link how d i t) i m
 unfolding bind_tag
+bind_from how d i zero m w h = elim h [ ]
 bind_from how d i (suc j) m w (from c) =
     ⊎_elim
     (λ (e : eqb i j ≡ true). rw e (subst (λ x. Chain d x m) (sym (eqb-true i j e)) c))
@@ -150,6 +151,7 @@ bind_from how d i (suc j) m w (from c) =
 bind_to : (how : Binding) (d : Links) (i t m : ℕ) → goes_back how ≡ true → To d m t
     → Chain (bind_tag link how d i t) m i
 unfolding bind_tag
+bind_to how d i zero m w h = elim h [ ]
 bind_to how d i (suc j) m w (to c) =
     ⊎_elim
     (λ (e : eqb i j ≡ true). rw e (subst (λ x. Chain d m x) (sym (eqb-true i j e)) c))
@@ -238,4 +240,5 @@ pub binds_forward : {p : ℕ → Bool} {how : ℕ → Binding} {tag : ℕ → �
     → Forward p (bind_blocks link how tag d i bs)
 unfolding bind_blocks
 binds_forward i [] out none f = f
-binds_forward {tag = tag} i (b ∷ bs) out (also o os) f = binds_forward i bs out os (bind_forward i (tag b) out o f)
+binds_forward {how = how} {tag = tag} {d = d} i (b ∷ bs) out (also o os) f =
+    binds_forward {d = bind_tag link (how b) d i (tag b)} i bs out os (bind_forward i (tag b) out o f)

@@ -47,7 +47,7 @@ after_append [] qs m = refl
 after_append (p ∷ ps) qs m = after_append ps qs (change m p)
 
 -- puts to other places leave a place as it is
-pub untouched : {ps : List Put} {a : Area} {i : ℕ} → All (Away a i) ps → (m : Memory) → after ps m a i ≡ m a i
+pub untouched : {a : Area} {i : ℕ} {ps : List Put} → All (Away a i) ps → (m : Memory) → after ps m a i ≡ m a i
 unfolding after
 untouched none m = refl
 untouched (also {x} h t) m = untouched t (change m x) ∙ change_away m h
