@@ -64,7 +64,7 @@ fn put_row(
     requires { (at + 160 ≤ length out.old) × (length bytes.now ≤ 64) }
     ensures appends { Appends (row_text number (record { letter = letter; answer = answer; bytes = bytes.now }))
         at out.old result out.new }
-    ensures upper_bound { result ≤ at + 160 }
+    ensures room { result ≤ at + 160 }
 {
     let a = put_head(out, at, number, letter, answer.status);
     let b = put_middle(out, a, answer.decided, answer.group);
@@ -76,7 +76,7 @@ pub fn put_rows(out: &mut [u8], at: usize, number: usize, rows: Rows, buffer: &[
     requires { (at + 320 ≤ length out.old) × (rows.first.count ≤ 64) × (64 ≤ length buffer.now) }
     ensures appends { Appends (rows_text number (rows_meant rows buffer.now)) at
         out.old result out.new }
-    ensures upper_bound { result ≤ at + 320 }
+    ensures room { result ≤ at + 320 }
 {
     let first = rows.first;
     let count = first.count;

@@ -12,7 +12,7 @@ use native.Mathlib.Nat.{add-zero}
 use borrow.Author.Tests.{lt-leb, eq-eqb, eqb-true, ltb-false}
 use Rattle.boards.specs.Lists.{any_of}
 use Rattle.boards.specs.Boards.{has, with_board, meets, tagged_in, Links, unlink, commit_group}
-use Rattle.boards.proofs.Basics.{decide, clash, or-false, and-true, true_and, and_false, false_and, not_true, refute}
+use Rattle.boards.proofs.Basics.{decide, clash, or_false, and_true, true_and, and_false, false_and, not_true, refute}
 use Rattle.boards.proofs.Basics.{test_ext, or_right}
 use Rattle.boards.proofs.Groups.{Bounded, has_ext, has_with, has_small, has_zero, mask_below, meets_yes, below_or}
 use Rattle.boards.proofs.Groups.{has_none, count_none, count_some}
@@ -55,7 +55,7 @@ module _ (g : ℕ) (small : g < 2 ^ 16) (old i : ℕ) (js : List ℕ) (waits : A
   first_awaited =
       ⊎_elim
       (λ (y : has g i && not (has old i) ≡ true).
-      let both = and-true (has g i) (not (has old i)) y in
+      let both = and_true (has g i) (not (has old i)) y in
       (both.0, not_true (has old i) both.1))
       (λ (y : has g i && not (has old i) ≡ false).
       let none : times i (i ∷ js) ≡ 0 = waits i ∙ ap (λ t. cond t 1 0) y in
@@ -255,7 +255,7 @@ module _ (s : Shape) (limits : Limits s) (g : ℕ) (group : Grouped s g) (m₀ m
             nobody_awaited g acks group.small (mask_below 16 _) (acks_inside s g m₀ group h)
             (awaits_less g group.small old i [] waits) in
             let l : deciding_cost s g m₀ ≤ k i =
-            subst (λ a. a.stores ≤ k i) (sym all_due) (ltb-false (k i) _ (or-false _ false enough).0) in
+            subst (λ a. a.stores ≤ k i) (sym all_due) (ltb-false (k i) _ (or_false _ false enough).0) in
             record {
               image_after = outcome.image;
               record_after = outcome.reply.next;
@@ -280,7 +280,7 @@ module _ (s : Shape) (limits : Limits s) (g : ℕ) (group : Grouped s g) (m₀ m
             let less = awaits_less g group.small old i (j ∷ js) waits in
             let e = somebody_awaited g acks j js group.small less in
             let own = call_due s m₀ context k g request i (suc (length js)) in
-            let one = or-false (short own) (any_of short due) enough in
+            let one = or_false (short own) (any_of short due) enough in
             let more = eqb-suc-zero (length js) in
             let l : s.context ≤ k i =
             subst (λ a. a.stores ≤ k i) (sym some_due)

@@ -11,7 +11,7 @@ use native.Mathlib.Nat.{add-zero, zero-add}
 use borrow.Author.Tests.{eqb-true, eqb-false, ne_eqb, ltb-true, lt-ltb, le-ltb, leb-false}
 use Rattle.boards.specs.Lists.{for, any_of}
 use Rattle.boards.specs.Boards.{has}
-use Rattle.boards.proofs.Basics.{decide, or_false, and-true, true_and, false_and, and_false, eqb_same}
+use Rattle.boards.proofs.Basics.{decide, or_false, and_true, true_and, false_and, and_false, eqb_same}
 use Rattle.boards.proofs.Basics.{test_ext}
 use Rattle.boards.proofs.Groups.{has_below, count, count_none, count_one_more}
 use Rattle.protocol.specs.Image.{Memory}
@@ -71,7 +71,7 @@ those_any_order g small j =
     times_those (has g) j 16
     ∙ ap (λ t. cond t 1 0)
     (test_ext (ltb j 16 && has g j) (has g j)
-    (λ h. (and-true (ltb j 16) (has g j) h).1)
+    (λ h. (and_true (ltb j 16) (has g j) h).1)
     (λ h. true_and (lt-ltb j 16 (has_below 16 g j small h)) h))
 
 -- or one of them first
@@ -90,7 +90,7 @@ first_any_order g i small member j =
     times_other i j (those 16 other) e ∙ times_those other j 16
     ∙ ap (λ t. cond t 1 0)
     (test_ext (ltb j 16 && other j) (has g j)
-    (λ h. (and-true (has g j) _ (and-true (ltb j 16) (other j) h).1).0)
+    (λ h. (and_true (has g j) _ (and_true (ltb j 16) (other j) h).1).0)
     (λ h. true_and (lt-ltb j 16 (has_below 16 g j small h)) (true_and h (ap not e)))))
     (decide (eqb i j))
 

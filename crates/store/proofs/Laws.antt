@@ -11,7 +11,7 @@ use native.Mathlib.Omega.{arith}
 use native.Mathlib.Nat.{sub-zero}
 use borrow.Author.Tests.{ltb-true, ltb-false, lt-ltb, le-ltb}
 use Rattle.protocol.specs.Image.{Store, made}
-use Rattle.boards.proofs.Basics.{decide, clash, or-false, or_true, true_or, or_right, take_append, test_ext}
+use Rattle.boards.proofs.Basics.{decide, clash, or_false, or_true, true_or, or_right, take_append, test_ext}
 use Rattle.protocol.proofs.Bridge.{length_made, made_append}
 use Rattle.store.specs.declared.Budget.{Budget}
 use Rattle.store.specs.Budget.{spent, Makes, start, WellBudget}
@@ -99,7 +99,7 @@ module _ {ss : List Store} {b r : Budget} {x y : List ℕ} (m : Makes ss b x r y
   pub makes_all : r.cut ≡ false → y ≡ made ss x
   unfolding spent
   makes_all h =
-      let both = or-false b.cut _ (ap (λ (c : Budget). c.cut) (sym m.budget) ∙ h) in
+      let both = or_false b.cut _ (ap (λ (c : Budget). c.cut) (sym m.budget) ∙ h) in
       m.image ∙ rw (take_all b.left ss (ltb-false _ _ both.1))
 
   -- nothing is stored after a cut, whatever the list

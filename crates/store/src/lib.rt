@@ -43,8 +43,8 @@ pub fn store(image: &mut [u8], at: usize, byte: u8, k: Budget) -> Budget
 
 // Copies `count` bytes from one offset to another; the two runs do not overlap.
 pub fn copy(part: &mut [u8], from: usize, to: usize, count: usize, k: Budget) -> Budget
-    requires count_in_bounds { (from + count ≤ length part.old) × (to + count ≤ length part.old) }
-    requires fact { (from + count ≤ to) ⊎ (to + count ≤ from) }
+    requires within { (from + count ≤ length part.old) × (to + count ≤ length part.old) }
+    requires apart { (from + count ≤ to) ⊎ (to + count ≤ from) }
     ensures { Makes (copy_stores part.old from to count) k
         part.old result part.new }
 {
@@ -65,8 +65,8 @@ pub fn copy_at(
     count: usize,
     k: Budget,
 ) -> Budget
-    requires count_in_bounds { (base + from + count ≤ length image.old) × (base + to + count ≤ length image.old) }
-    requires fact { (from + count ≤ to) ⊎ (to + count ≤ from) }
+    requires within { (base + from + count ≤ length image.old) × (base + to + count ≤ length image.old) }
+    requires apart { (from + count ≤ to) ⊎ (to + count ≤ from) }
     ensures { Makes (shifted base (copy_stores (drop base image.old) from to count)) k
         image.old result image.new }
 {
