@@ -1,0 +1,33 @@
+-- `fill_header` meets its contract: at i the bytes from 1 to i - 1 are stored.
+use Prim.Native.Nat.{◌-◌}
+use mathlib.Core.Path.{◌≡◌, refl, sym, ap}
+use lib.ListN.{length}
+use native.Mathlib.Omega.{arith}
+use Rattle.boards.specs.Lists.{span}
+use Rattle.protocol.specs.Image.{total}
+use Rattle.store.specs.Budget.{one}
+use Rattle.store.proofs.Laws.{makes_none, makes_length}
+use Rattle.format.specs.Stores.{header_store}
+use Rattle.format.proofs.Laws.{filled_more}
+use Rattle.format.proofs.fill_header.Goals as goal
+
+pub loop-i-init : goal.loop-i-init
+unfolding span
+loop-i-init c = (omega arith, omega arith, refl, makes_none _ _)
+
+pub store-left-requires : goal.store-left-requires
+unfolding total
+store-left-requires c = omega arith
+
+pub loop-i-preserved : goal.loop-i-preserved
+loop-i-preserved c =
+    let round =
+    filled_more (header_store c.args.s) 1 c.loop-i.i (omega arith)
+    (ap (one c.loop-i.i) c.header_byte-byte.ensures)
+    c.loop-i.invariant.3 c.store-left.ensures in
+    (omega arith, omega arith, makes_length round, round)
+
+pub returns : goal.returns
+returns c =
+    let done : 9 ≡ c.loop-i.i = omega arith in
+    rw (sym done) at c.loop-i.invariant.3
