@@ -19,11 +19,11 @@ use Rattle.layout.proofs.Laws.{bounded}
 use Rattle.inspect.specs.Same.{compare_tests, same_shape, same_area, same_areas, same_bytes, compare}
 
 -- a test's answer r, as an `if` on its negation left or took it
-pub holds : {r t : Bool} → r ≡ t → not r ≡ false → t ≡ true
-holds e h = sym e ∙ not_false _ h
+pub holds : {r t : Bool} → r ≡ t → r ≡ true → t ≡ true
+holds e h = sym e ∙ h
 
-pub fails : {r t : Bool} → r ≡ t → not r ≡ true → t ≡ false
-fails e h = sym e ∙ not_true _ h
+pub fails : {r t : Bool} → r ≡ t → r ≡ false → t ≡ false
+fails e h = sym e ∙ h
 
 -- ---- Context
 
@@ -91,12 +91,12 @@ module _ (s : Shape) (image other : List ℕ) where
 
   -- where the banks differ the areas do; where they are the same the contexts tell
   pub bank_other : {at : ℕ} {r : Bool} → at ≡ base s Recovery → r ≡ same_bytes image other at (cells s) →
-      not r ≡ true → false ≡ same_areas s (view s image) (view s other)
+      r ≡ false → false ≡ same_areas s (view s image) (view s other)
   unfolding same_areas size
   bank_other p e h = sym (false_and _ (fails (area_bytes Recovery p e) h))
 
   pub bank_same : {at from : ℕ} {r b : Bool} → at ≡ base s Recovery → r ≡ same_bytes image other at (cells s) →
-      not r ≡ false → from ≡ base s Checkpoint → b ≡ same_bytes image other from (contexts s) →
+      r ≡ true → from ≡ base s Checkpoint → b ≡ same_bytes image other from (contexts s) →
       b ≡ same_areas s (view s image) (view s other)
   unfolding same_areas size
   bank_same p e h q f = rw (holds (area_bytes Recovery p e) h) (area_bytes Checkpoint q f)

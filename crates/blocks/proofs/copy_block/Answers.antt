@@ -36,8 +36,10 @@ overflow_add-at c =
 pub copy_at-copied-requires : goal.copy_at-copied-requires
 copy_at-copied-requires c =
     let at = ap (λ (x : ℕ). x + c.args.b * c.args.s.size) c.current_at.ensures in
+    let fit =
     ranges_fit c.args.s c.args.save c.args.b c.requires.2 _ _ _ _ c.requires.1 at
-    c.offset-from.ensures c.offset-to.ensures
+    c.offset-from.ensures c.offset-to.ensures in
+    record { within = fit.0; apart = fit.1 }
 
 pub overflow_add-b : goal.overflow_add-b
 overflow_add-b c =

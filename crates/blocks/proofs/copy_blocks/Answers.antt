@@ -14,31 +14,31 @@ use Rattle.blocks.proofs.copy_blocks.Goals as goal
 
 pub next_tagged-b-requires : goal.next_tagged-b-requires
 next_tagged-b-requires c =
-    (start.requires.0, start.requires.1, omega arith)
+    (c.requires.0, c.requires.1, omega arith)
 
 pub loop-b-init : goal.loop-b-init
 unfolding for
 loop-b-init c =
     (
       c.next_tagged-b.ensures.1,
-      blocks_skip start.requires.1 start.requires.2 start.args.g start.args.save 0 c.next_tagged-b.result
+      blocks_skip c.requires.1 c.requires.2 c.args.g c.args.save 0 c.next_tagged-b.result
           (omega arith) c.next_tagged-b.ensures.1
           c.next_tagged-b.ensures.2 (puts_none _ _ _),
     )
 
 pub copy_block-left-requires : goal.copy_block-left-requires
 copy_block-left-requires c =
-    (start.requires.0, puts_length c.loop-b.invariant.1 ∙ start.requires.1, c.loop-b-test.true)
+    (c.requires.0, puts_length c.loop-b.invariant.1 ∙ c.requires.1, c.loop-b-test.true)
 
 pub overflow_add-b : goal.overflow_add-b
 overflow_add-b c =
-    omega (arith, bounded head.before.before.before.before.requires.0, c.loop-b.invariant.0)
+    omega (arith, bounded c.requires.0, c.loop-b.invariant.0)
 
 pub next_tagged-b-requires-in-loop-b : goal.next_tagged-b-requires-in-loop-b
 next_tagged-b-requires-in-loop-b c =
     (
-      start.requires.0,
-      puts_length c.copy_block-left.ensures ∙ puts_length c.loop-b.invariant.1 ∙ start.requires.1,
+      c.requires.0,
+      puts_length c.copy_block-left.ensures ∙ puts_length c.loop-b.invariant.1 ∙ c.requires.1,
       omega (arith, c.loop-b-test.true),
     )
 
@@ -49,19 +49,19 @@ pub loop-b-preserved : goal.loop-b-preserved
 loop-b-preserved c =
     (
       c.next_tagged-b-in-loop-b.ensures.1,
-      blocks_skip start.requires.1 start.requires.2 start.args.g start.args.save (c.loop-b.b + 1)
+      blocks_skip c.requires.1 c.requires.2 c.args.g c.args.save (c.loop-b.b + 1)
           c.next_tagged-b-in-loop-b.result
           c.next_tagged-b-in-loop-b.ensures.0 c.next_tagged-b-in-loop-b.ensures.1 c.next_tagged-b-in-loop-b.ensures.2
-          (blocks_again start.requires.1 start.requires.2 start.args.g start.args.save c.loop-b.b
+          (blocks_again c.requires.1 c.requires.2 c.args.g c.args.save c.loop-b.b
           c.loop-b-test.true c.loop-b.invariant.1 c.copy_block-left.ensures),
     )
 
 pub returns : goal.returns
 unfolding blocks_copied
 returns c =
-    let done : c.loop-b.b ≡ args.s.blocks = omega (arith, c.loop-b-test.false, c.loop-b.invariant.0) in
+    let done : c.loop-b.b ≡ c.args.s.blocks = omega (arith, c.loop-b-test.false, c.loop-b.invariant.0) in
     subst
-    (λ n. Puts args.s (for n (block_puts args.s (view args.s args.image.now) args.g args.save))
-    args.k
-    args.image.now c.loop-b.left c.loop-b.image)
+    (λ n. Puts c.args.s (for n (block_puts c.args.s (view c.args.s c.args.image.now) c.args.g c.args.save))
+    c.args.k
+    c.args.image.now c.loop-b.left c.loop-b.image)
     done c.loop-b.invariant.1

@@ -36,7 +36,10 @@ pub copy_at-requires : goal.copy_at-requires
 unfolding base total
 copy_at-requires c =
     let fits = context_fits c.args.s c.args.i c.requires.2 in
-    ((omega (arith, c.tentative_at.ensures), omega (arith, c.tentative_at.ensures)), inl (omega arith))
+    record {
+      within = (omega (arith, c.tentative_at.ensures), omega (arith, c.tentative_at.ensures));
+      apart = inl (omega arith);
+    }
 
 pub returns : goal.returns
 returns c =

@@ -10,22 +10,22 @@ use Rattle.entry.proofs.checks.bad_open.Goals as goal
 
 pub returns-then-not-within : goal.returns-then-not-within
 unfolding bad_open
-returns-then-not-within c = or_stop _ (sym (ap not c.within.ensures) ∙ c.if-not-within.true)
+returns-then-not-within c = or_stop _ (ap not (sym c.within.ensures ∙ c.if-not-within.true))
 
 pub returns-then-c : goal.returns-then-c
 unfolding bad_open
 returns-then-c c =
-    or_pass (sym (ap not c.within.ensures) ∙ c.if-not-within.false) (or_stop _ (eq-eqb _ _ c.if-c.true))
+    or_pass (ap not (sym c.within.ensures ∙ c.if-not-within.false)) (or_stop _ (eq-eqb _ _ c.if-c.true))
 
 pub returns-then-c-ge16 : goal.returns-then-c-ge16
 unfolding bad_open
 returns-then-c-ge16 c =
-    or_pass (sym (ap not c.within.ensures) ∙ c.if-not-within.false)
+    or_pass (ap not (sym c.within.ensures ∙ c.if-not-within.false))
     (or_pass (ne_eqb _ _ c.if-c.false)
     (sym (ap not (has_small 16 c.args.c.acknowledged c.args.c.starter (omega arith) c.if-c-ge16.true))))
 
 pub returns : goal.returns
 unfolding bad_open
 returns c =
-    or_pass (sym (ap not c.within.ensures) ∙ c.if-not-within.false)
+    or_pass (ap not (sym c.within.ensures ∙ c.if-not-within.false))
     (or_pass (ne_eqb _ _ c.if-c.false) (ap not c.has.ensures))
