@@ -50,7 +50,7 @@ length_total a b = omega (arith, length_amounts a b)
 said_append : (n : ℕ) (s t : List ℕ) → number_said n (s ++ t) ≡ number_said (number_said n s) t
 unfolding number_said
 said_append n [] t = refl
-said_append n (c ∷ s) t = said_append _ s t
+said_append n (c ∷ s) t = said_append (number_said n (c ∷ [])) s t
 
 -- the last digit of a number
 digit_said : (n : ℕ) → number_said (n / 10) ((48 + n % 10) ∷ []) ≡ n

@@ -235,7 +235,12 @@ returns c =
     ≡ first
     (test (ltb c.in-Taken.s.boards c.locate-p.result.last.tag) 11
     ∷ test (has (engaged c.args.state) (board_of c.in-Taken.s c.args.who)) 13
-    ∷ []) = rest ∙ first_passed 11 _ (le-ltb _ _ c.if-p-s.false) in
+    ∷ []) =
+        rest
+        ∙ first_passed 11
+        (test (ltb c.in-Taken.s.boards c.locate-p.result.last.tag) 11
+        ∷ test (has (engaged c.args.state) (board_of c.in-Taken.s c.args.who)) 13
+        ∷ []) (le-ltb _ _ c.if-p-s.false) in
     -- all tests but 13 are passed: the answer of `has` decides, and the place is known
     let last : (refusal_at c.args.image.now c.args.state (Read c.args.who c.args.cell c.args.n c.args.room)
     ≡ first (test c.has.result 13 ∷ []))
@@ -243,7 +248,7 @@ returns c =
         let passed = known in
         let member = c.has.ensures ∙ ap (λ g. has g c.board_of-board.result) c.engaged-members.ensures
         ∙ ap (has _) c.board_of-board.ensures in (
-          second ∙ first_passed 11 _ (le-ltb _ c.locate-p.result.last.tag (omega (arith, c.if-p-s-2.false)))
+          second ∙ first_passed 11 (test (has (engaged c.args.state) (board_of c.in-Taken.s c.args.who)) 13 ∷ []) (le-ltb _ c.locate-p.result.last.tag (omega (arith, c.if-p-s-2.false)))
               ∙ ap (λ b. first (test b 13 ∷ [])) (sym member),
           placed _ c.board_of-board.ensures c.locate-p.ensures passed.1 (ok) c.if-n-room.false
               c.if-p-s.false c.if-p-s-2.false,

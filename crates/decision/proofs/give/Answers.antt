@@ -27,11 +27,11 @@ overflow_cast-i c =
 
 pub finish-requires : goal.finish-requires
 finish-requires c =
-    left_most c.new-whole.ensures stored.put_all_lem.ensures
+    left_most c.new-whole.ensures c.put_all-given.ensures
 
 pub returns-then-open-g : goal.returns-then-open-g
 returns-then-open-g c =
-    let first = makes_begun c.new-whole.ensures stored.put_all_lem.ensures in
+    let first = makes_begun c.new-whole.ensures c.put_all-given.ensures in
     let given = given_puts c.args.i c.args.context.now c.tentative_at.ensures first in
     λ before e.
     rw c.finish.ensures
@@ -40,9 +40,9 @@ returns-then-open-g c =
 
 pub complete-left-requires : goal.complete-left-requires
 complete-left-requires c =
-    let first = makes_begun c.new-whole.ensures stored.put_all_lem.ensures in (
+    let first = makes_begun c.new-whole.ensures c.put_all-given.ensures in (
       c.requires.0,
-      puts_length c.announce-told.ensures ∙ makes_length stored.put_all_lem.ensures ∙ c.requires.1,
+      puts_length c.announce-told.ensures ∙ makes_length c.put_all-given.ensures ∙ c.requires.1,
       puts_well c.announce-told.ensures (makes_well first (well_start refl)),
     )
 
@@ -52,13 +52,13 @@ clear-next-requires c =
 
 pub finish-requires-2 : goal.finish-requires-2
 finish-requires-2 c =
-    let first = makes_begun c.new-whole.ensures stored.put_all_lem.ensures in
+    let first = makes_begun c.new-whole.ensures c.put_all-given.ensures in
     let given = given_puts c.args.i c.args.context.now c.tentative_at.ensures first in
     left_all given c.announce-told.ensures c.complete-left.ensures
 
 pub returns : goal.returns
 returns c =
-    let first = makes_begun c.new-whole.ensures stored.put_all_lem.ensures in
+    let first = makes_begun c.new-whole.ensures c.put_all-given.ensures in
     let given = given_puts c.args.i c.args.context.now c.tentative_at.ensures first in
     λ before e.
     rw c.finish-2.ensures

@@ -2,12 +2,8 @@
 use mathlib.Core.Path.{refl}
 use native.Mathlib.Omega.{arith}
 use Rattle.page.specs.Page.{no_totals}
-use Rattle.sheet.proofs.no_totals.Statement.{statement}
-use Rattle.sheet.proofs.no_totals.Tie as tie
+use Rattle.sheet.proofs.no_totals.Goals as goal
 
-returns : tie.Need-returns
+pub returns : goal.returns
 unfolding no_totals
 returns c = (refl, record { commits = omega arith; blocks = omega arith; bytes = omega arith })
-
-pub no-totals-spec : {M : Type 1} → statement M
-no-totals-spec = tie.close (tie.spec returns)
