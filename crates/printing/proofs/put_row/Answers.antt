@@ -19,4 +19,7 @@ returns c =
     let whole =
     rw parts at
     (appends_then c.put_head-a.ensures (appends_then c.put_middle-b.ensures c.put_tail.ensures)) in
-    (whole, omega (arith, whole.place, length_row c.args.number c.args.letter c.args.answer c.args.bytes.now))
+    record {
+      appends = whole;
+      room = omega (arith, whole.place, length_row c.args.number c.args.letter c.args.answer c.args.bytes.now);
+    }

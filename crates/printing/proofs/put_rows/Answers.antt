@@ -5,12 +5,15 @@ use Rattle.printing.proofs.put_rows.Goals as goal
 
 pub returns-in_default : goal.returns-in_default
 returns-in_default c =
-    (rows_alone c.args.number c.args.rows c.args.buffer.now c.put_row-end.ensures.appends c.in_default.is, omega arith)
+    record {
+      appends = rows_alone c.args.number c.args.rows c.args.buffer.now c.put_row-end.ensures.appends c.in_default.is;
+      room = omega (arith, c.put_row-end.ensures.room);
+    }
 
 pub returns : goal.returns
 returns c =
-    (
-      rows_both c.args.number c.args.rows c.args.buffer.now c.put_row-end.ensures.appends c.in-PowerUp.is
-          c.put_row.ensures.appends,
-      omega (arith, c.put_row-end.ensures.room, c.put_row.ensures.room),
-    )
+    record {
+      appends = rows_both c.args.number c.args.rows c.args.buffer.now c.put_row-end.ensures.appends c.in-PowerUp.is
+          c.put_row.ensures.appends;
+      room = omega (arith, c.put_row-end.ensures.room, c.put_row.ensures.room);
+    }
