@@ -6,8 +6,6 @@ use mathlib.Core.List.{List, [], ◌∷◌}
 use mathlib.Core.Logic.{◌≢◌}
 use lib.Dec.{eqb, leb}
 use lib.ListN.{length}
-use types.Run.{OneOf, miss}
-use denote.Enum.Declared.{tag_of}
 use borrow.Author.Tests.{eq-eqb, ne_eqb, le-leb, lt-leb}
 use Rattle.boards.proofs.Basics.{if_true, if_false, true_and, false_and, and_false}
 use Rattle.volatile.specs.Volatile.{commit_of, acknowledge}
@@ -20,7 +18,6 @@ use Rattle.text.specs.Events.{Make, room, meant}
 use Rattle.text.specs.Turns.{Player}
 use Rattle.text.specs.declared.Parsed.{Parsed}
 use Rattle.text.specs.declared.Parsed.TheVariants as parsed
-use Rattle.text.specs.contracts.Parsed.{the_type as parsed_type}
 use Rattle.page.specs.Saving.{saved, decided_by}
 use Rattle.page.specs.declared.Decided.TheVariants.{Nothing, Commit}
 use Rattle.page.proofs.Decisions.{says_decided, refused_undecided, read_undecided, write_undecided, fault_undecided}
@@ -58,9 +55,6 @@ module _ (s : Shape) (m : Memory) (r : Record) (i k : ℕ) where
 -- ---- the lines
 
 -- the places in `Parsed` of the lines that are neither a start nor an acknowledgement
-abbrev others : List ℕ
-others = 0 ∷ 1 ∷ 2 ∷ 5 ∷ 6 ∷ 7 ∷ 8 ∷ []
-
 module _ (image : List ℕ) (state : Record) (k : ℕ) where
   abbrev player : Player
   player = record { image = image; state = state; k = k }
@@ -75,18 +69,19 @@ module _ (image : List ℕ) (state : Record) (k : ℕ) where
   refused_nothing request e h = undecided request (refused_undecided image state request k (λ z. h (sym e ∙ z)))
 
   -- no other line decides
-  pub others_nothing : (line : Parsed) (buffer : List ℕ) → OneOf others (tag_of parsed_type line)
+  pub others_nothing : (line : Parsed) (buffer : List ℕ) → ((i n : ℕ) → line ≢ parsed.Start i n)
+      → ((i n : ℕ) → line ≢ parsed.Acknowledge i n)
       → Nothing ≡ decided_by player (meant line buffer)
   unfolding decided_by meant
-  others_nothing (parsed.Format s) buffer h = refl
-  others_nothing (parsed.Read i a n) buffer h = undecided _ (read_undecided image state _ a n room k)
-  others_nothing (parsed.Write i a n) buffer h = undecided _ (write_undecided image state _ a _ k)
-  others_nothing (parsed.Start i n) buffer h = absurd (miss others 3 tt h)
-  others_nothing (parsed.Acknowledge i n) buffer h = absurd (miss others 4 tt h)
-  others_nothing (parsed.Fault i) buffer h = undecided _ (fault_undecided image state i k)
-  others_nothing parsed.PowerUp buffer h = undecided _ (power_up_undecided image state k)
-  others_nothing (parsed.Allow n) buffer h = refl
-  others_nothing (parsed.Refused n) buffer h = refl
+  others_nothing (parsed.Format shape) buffer s a = refl
+  others_nothing (parsed.Read i cell n) buffer s a = undecided _ (read_undecided image state _ cell n room k)
+  others_nothing (parsed.Write i cell n) buffer s a = undecided _ (write_undecided image state _ cell _ k)
+  others_nothing (parsed.Start i n) buffer s a = absurd (s i n refl)
+  others_nothing (parsed.Acknowledge i n) buffer s a = absurd (a i n refl)
+  others_nothing (parsed.Fault i) buffer s a = undecided _ (fault_undecided image state i k)
+  others_nothing parsed.PowerUp buffer s a = undecided _ (power_up_undecided image state k)
+  others_nothing (parsed.Allow n) buffer s a = refl
+  others_nothing (parsed.Refused n) buffer s a = refl
 
   pub acknowledged_decides : {request : Request} {before r : Record} {i : ℕ} {context : List ℕ} {s : Shape}
       → Gives image state request before i context → r ≡ acknowledge before i → shape_of image ≡ s

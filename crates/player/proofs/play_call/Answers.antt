@@ -7,7 +7,7 @@ use Rattle.player.proofs.Quiet.{quiet}
 use Rattle.player.proofs.play_call.Goals as goal
 
 pub returns : goal.returns
-returns c =
+returns c buffer =
     let request = request_of c.args.letter c.args.board c.args.cell c.args.bytes.now in
     called request c.args.p.k c.args.p.state c.args.area.now c.args.p.length (omega (arith, c.requires.whole, c.requires.fits))
     c.store_call-reply.ensures c.args.letter

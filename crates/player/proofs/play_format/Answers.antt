@@ -10,7 +10,7 @@ use Rattle.player.proofs.play_format.Goals as goal
 
 pub returns-then-not-allowed : goal.returns-then-not-allowed
 unfolding play
-returns-then-not-allowed c =
+returns-then-not-allowed c buffer =
     rw (sym c.allowed.ensures ∙ c.if-not-allowed.true)
     (formatted c.args.s (take c.args.p.length c.args.area.now) c.args.p.k c.args.p.state
     (formatted_lent c.args.s c.args.area.now c.args.p.length c.args.p.k c.args.p.state (omega (arith, c.requires.whole, c.requires.fits))
@@ -32,7 +32,7 @@ end_turn-requires-2 c =
 
 pub returns : goal.returns
 unfolding play
-returns c =
+returns c buffer =
     let fine = sym c.allowed.ensures ∙ c.if-not-allowed.false in
     rw (fine, sym c.total-size.ensures)
     (formatted c.args.s (replicate c.total-size.result 0) c.args.p.k c.args.p.state c.format_anew-reply.ensures

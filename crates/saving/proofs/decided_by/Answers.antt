@@ -29,4 +29,4 @@ returns-in-Acknowledge c =
 
 pub returns-in_default : goal.returns-in_default
 returns-in_default c =
-    others_nothing _ _ _ c.args.line _ c.in_default.in_default-own.keys3
+    others_nothing _ _ _ c.args.line _ c.in_default.not-Start c.in_default.not-Acknowledge
