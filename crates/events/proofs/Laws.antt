@@ -25,8 +25,8 @@ use Rattle.fields.specs.declared.Values.{Values}
 use Rattle.fields.specs.declared.Numbers.{Numbers}
 use Rattle.fields.specs.declared.Numbers.TheVariants.{All, Refused}
 use Rattle.fields.proofs.Laws.{field_from, behind, ends_last, ends_more, before_all}
-use Rattle.bytes.specs.Reading.{BytesRead}
-use Rattle.bytes.proofs.Laws.{length_decoded, pairs_commas}
+use Rattle.hexadecimal.specs.Reading.{BytesRead}
+use Rattle.hexadecimal.proofs.Laws.{length_decoded, pairs_commas}
 use Rattle.events.specs.Made.{bytes_last, of_numbers, of_bytes}
 
 -- ---- numbers in a row

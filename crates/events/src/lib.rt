@@ -8,7 +8,7 @@ ghost use Rattle.text.specs.declared.Letter.TheVariants.{Listed};
 ghost use Rattle.fields.specs.Numbers.{values_of};
 ghost use Rattle.events.specs.Made.{bytes_last, of_numbers, of_bytes};
 
-use bytes::read_bytes;
+use hexadecimal::read_bytes;
 use fields::{Numbers, Values, first_letter, read_numbers};
 use protocol::Shape;
 use text::{

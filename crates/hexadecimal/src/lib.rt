@@ -3,7 +3,7 @@
 ghost use Rattle.std.specs.Prelude.{◌≡◌, true, ◌*◌, ◌≤◌, length};
 ghost use Rattle.protocol.specs.Calls.{filled};
 ghost use Rattle.text.specs.Fields.{digit, pairs, decoded};
-ghost use Rattle.bytes.specs.Reading.{BytesRead};
+ghost use Rattle.hexadecimal.specs.Reading.{BytesRead};
 
 use text::Bytes;
 
