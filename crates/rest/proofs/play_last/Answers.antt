@@ -7,8 +7,8 @@ use Rattle.rest.proofs.play_last.Goals as goal
 pub close-requires : goal.close-requires
 close-requires c =
     (
-      omega (arith, c.last_step-stepped.ensures.fits.image, c.area-1.given, c.requires.2),
-      omega (arith, c.last_step-stepped.ensures.written, c.out-1.given, c.requires.3),
+      omega (arith, c.last_step-stepped.ensures.fits.image, c.last_step-stepped.auto.area, c.requires.2),
+      omega (arith, c.last_step-stepped.ensures.written, c.last_step-stepped.auto.out, c.requires.3),
     )
 
 pub returns : goal.returns
