@@ -1,7 +1,7 @@
 -- What Context and Same answer, by the tests that the code makes.
 use Prim.Native.Nat.{ℕ, ◌+◌, ◌-◌, ◌*◌, ◌≤◌, ◌<◌}
 use mathlib.Core.Path.{◌≡◌, refl, sym, ◌∙◌, ap₂}
-use mathlib.Core.Bool.{Bool, true, false, not, ◌&&◌}
+use mathlib.Core.Bool.{Bool, true, false, ◌&&◌}
 use mathlib.Core.List.{List, []}
 use lib.Dec.{eqb}
 use lib.ListN.{length, take, drop}
@@ -12,7 +12,7 @@ use Rattle.protocol.specs.Image.{Area, Recovery, Checkpoint, cells, contexts, ba
 use Rattle.protocol.specs.Image.{in_order, view}
 use Rattle.protocol.specs.Calls.{first, context_tests, context_part, context_status}
 use Rattle.protocol.specs.declared.Shape.{Shape}
-use Rattle.boards.proofs.Basics.{and_true, false_and, test_ext, every_at, every_all, not_true, not_false, row_fits}
+use Rattle.boards.proofs.Basics.{and_true, false_and, test_ext, every_at, every_all, row_fits}
 use Rattle.protocol.proofs.Bridge.{view_at, ends_within}
 use Rattle.layout.specs.Headers.{Shaped}
 use Rattle.layout.proofs.Laws.{bounded}

@@ -12,7 +12,7 @@ use Rattle.boards.specs.Boards.{Links, unlinked, link, Chain, here, step, Exactl
 use Rattle.protocol.specs.Image.{Tags, size, view}
 use Rattle.protocol.specs.Accesses.{board_of, touched, whole, write_binding, bind_boards, bind_tag, bind_blocks}
 use Rattle.protocol.specs.Calls.{Write, Fault}
-use Rattle.protocol.specs.Ledger.{done, noted, effect, update}
+use Rattle.protocol.specs.Ledger.{noted, effect, update}
 use Rattle.protocol.specs.Claim.{System, answer, next}
 use Rattle.protocol.specs.declared.Shape.{Shape}
 use Rattle.protocol.specs.declared.Requester.{Requester}

@@ -14,7 +14,7 @@ use Rattle.protocol.specs.Ledger.{kept, undone, OpenCommit, Ledger, writer, clea
 use Rattle.protocol.specs.declared.Shape.{Shape}
 use Rattle.volatile.specs.declared.Record.{Record}
 use Rattle.volatile.specs.declared.Commit.{Commit}
-use Rattle.boards.proofs.Basics.{decide, clash, refute, none}
+use Rattle.boards.proofs.Basics.{decide, clash, refute}
 use Rattle.boards.proofs.Groups.{Forward, Backward, links_ext, has_zero, has_none, meets_no}
 use Rattle.volatile.proofs.Records.{depends_fresh}
 use Rattle.protocol.proofs.Marks.{Mark, gone, waits, fixed, mark, marks, live, saved, To, to, Above, KeptOrder}

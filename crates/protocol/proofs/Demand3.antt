@@ -32,7 +32,6 @@ use Rattle.protocol.proofs.Marks.{marks, live, saved, live_byte}
 use Rattle.protocol.proofs.Consistent.{blank_ok, clean_reads}
 use Rattle.protocol.proofs.Bridge.{Sound, view_at, view_decision, context_of, limits}
 use Rattle.protocol.proofs.Format as Format
-use Rattle.protocol.proofs.Copies.{current}
 use Rattle.protocol.proofs.Agreement.{On, nobody}
 use Rattle.protocol.proofs.Plans.{Ranged}
 use Rattle.protocol.proofs.Invariant.{Invariant, up, down, step, write_ok, off_refuses}

@@ -4,7 +4,6 @@ use Prim.Native.Nat.{ℕ, zero, suc, ◌+◌, ◌≤◌, ◌<◌}
 use mathlib.Core.Path.{◌≡◌, refl, sym, ◌∙◌, ap, ap₂, subst}
 use mathlib.Core.Bool.{Bool, true, false, not, true≢false}
 use mathlib.Core.List.{List, [], ◌∷◌, ◌++◌, map, append-nil}
-use mathlib.Core.Option.{some}
 use mathlib.Core.Logic.{◌≢◌}
 use lib.ListN.{length}
 use native.Mathlib.Omega.{arith}
@@ -13,7 +12,7 @@ use borrow.Author.Tests.{ne_eqb, le-ltb}
 use Rattle.boards.specs.Lists.{span, any_of, select}
 use Rattle.boards.specs.Boards.{has, meets, tagged_in, fault_group, commit_group}
 use Rattle.protocol.specs.Image.{Tags, Current, Recovery, Memory, after, cells, view}
-use Rattle.protocol.specs.Image.{in_order, size}
+use Rattle.protocol.specs.Image.{in_order}
 use Rattle.volatile.specs.Volatile.{acknowledge, commit_of, off, depends, engaged, clear, opened, bad_record}
 use Rattle.protocol.specs.Calls.{Request, Read, Write, Start, Acknowledge, Fault, PowerUp, Test, first, refusals}
 use Rattle.protocol.specs.Calls.{entry_tests, read_tests, write_tests, start_tests, acknowledge_tests}
@@ -25,7 +24,7 @@ use Rattle.protocol.specs.Ledger.{refused, done, undone, Note, OpenCommit, Ledge
 use Rattle.protocol.specs.Ledger.{source, sources_of, decides_now, noted, started, cleared, all_undone}
 use Rattle.protocol.specs.Ledger.{commit_effect, effect, update}
 use Rattle.protocol.specs.Claim.{verdict, System, waits, answer, next, bytes_from, newest}
-use Rattle.protocol.specs.Claim.{Commits, Answers, end}
+use Rattle.protocol.specs.Claim.{Commits, Answers}
 use Rattle.protocol.specs.declared.Shape.{Shape}
 use Rattle.protocol.specs.declared.Requester.{Requester}
 use Rattle.volatile.specs.declared.Record.{Record}

@@ -19,7 +19,7 @@ use Rattle.boards.proofs.Groups.{chain_outside_forward}
 use Rattle.boards.proofs.Groups.{in_commit_group, commit_group_small, mask_below, count_none}
 use Rattle.volatile.specs.Volatile.{depends, engaged, bad_record}
 use Rattle.volatile.specs.declared.Record.{Record}
-use Rattle.components.specs.Components.{component, order_from, all_boards, order}
+use Rattle.components.specs.Components.{order_from, all_boards, order}
 use Rattle.components.specs.Claims.{SixteenBoards}
 use Rattle.components.proofs.Ready.{minus_has, has_minus}
 use Rattle.components.proofs.Ready as next
@@ -33,7 +33,7 @@ use Rattle.protocol.proofs.Plans.{any_of_append}
 use Rattle.costs.specs.Claims.{AnsweredCall}
 use Rattle.costs.proofs.Opened.{Grouped}
 use Rattle.costs.proofs.Completes.{InOrder, none_acknowledged}
-use Rattle.shutdown.specs.Shutdown.{InAnyOrder, Sequence, ends, goes_on, commit_due}
+use Rattle.shutdown.specs.Shutdown.{InAnyOrder, Sequence, goes_on, commit_due}
 use Rattle.shutdown.specs.Shutdown.{commits_due}
 use Rattle.shutdown.specs.Shutdown.{CommitsInOrder}
 use Rattle.shutdown.proofs.Runs.{Leads, leads_none, leads_then, leads_all, leads_end}

@@ -3,7 +3,6 @@ use Prim.Native.Nat.{ℕ, ◌+◌, ◌*◌}
 use mathlib.Core.Path.{sym, ◌∙◌, ap}
 use native.Mathlib.Omega.{arith}
 use Rattle.protocol.specs.Image.{total, base}
-use Rattle.boards.proofs.Basics.{not_true, not_false}
 use Rattle.layout.proofs.Laws.{bounded}
 use Rattle.blocks.proofs.Blocks.{block_fits, block_left, block_done, ranges_fit}
 use Rattle.blocks.proofs.copy_block.Goals as goal

@@ -1,5 +1,5 @@
 -- `copy_blocks` meets its contract: at block b the puts of the first b blocks are made, read off the entry.
-use Prim.Native.Nat.{◌+◌, ◌-◌}
+use Prim.Native.Nat.{◌+◌}
 use mathlib.Core.Path.{◌≡◌, ◌∙◌, subst}
 use native.Mathlib.Omega.{arith}
 use Rattle.boards.specs.Lists.{for}
@@ -18,13 +18,12 @@ next_tagged-b-requires c =
 
 pub loop-b-init : goal.loop-b-init
 unfolding for
-loop-b-init c =
-    (
-      c.next_tagged-b.ensures.1,
-      blocks_skip c.requires.1 c.requires.2 c.args.g c.args.save 0 c.next_tagged-b.result
-          (omega arith) c.next_tagged-b.ensures.1
-          c.next_tagged-b.ensures.2 (puts_none _ _ _),
-    )
+loop-b-init c = (
+  c.next_tagged-b.ensures.1,
+  blocks_skip c.requires.1 c.requires.2 c.args.g c.args.save 0 c.next_tagged-b.result
+      (omega arith) c.next_tagged-b.ensures.1
+      c.next_tagged-b.ensures.2 (puts_none _ _ _),
+)
 
 pub copy_block-left-requires : goal.copy_block-left-requires
 copy_block-left-requires c =
@@ -35,26 +34,24 @@ overflow_add-b c =
     omega (arith, bounded c.requires.0, c.loop-b.invariant.0)
 
 pub next_tagged-b-requires-in-loop-b : goal.next_tagged-b-requires-in-loop-b
-next_tagged-b-requires-in-loop-b c =
-    (
-      c.requires.0,
-      puts_length c.copy_block-left.ensures ∙ puts_length c.loop-b.invariant.1 ∙ c.requires.1,
-      omega (arith, c.loop-b-test.true),
-    )
+next_tagged-b-requires-in-loop-b c = (
+  c.requires.0,
+  puts_length c.copy_block-left.ensures ∙ puts_length c.loop-b.invariant.1 ∙ c.requires.1,
+  omega (arith, c.loop-b-test.true),
+)
 
 pub loop-b-smaller : goal.loop-b-smaller
 loop-b-smaller c = omega (arith, c.next_tagged-b-in-loop-b.ensures.0, c.loop-b-test.true)
 
 pub loop-b-preserved : goal.loop-b-preserved
-loop-b-preserved c =
-    (
-      c.next_tagged-b-in-loop-b.ensures.1,
-      blocks_skip c.requires.1 c.requires.2 c.args.g c.args.save (c.loop-b.b + 1)
-          c.next_tagged-b-in-loop-b.result
-          c.next_tagged-b-in-loop-b.ensures.0 c.next_tagged-b-in-loop-b.ensures.1 c.next_tagged-b-in-loop-b.ensures.2
-          (blocks_again c.requires.1 c.requires.2 c.args.g c.args.save c.loop-b.b
-          c.loop-b-test.true c.loop-b.invariant.1 c.copy_block-left.ensures),
-    )
+loop-b-preserved c = (
+  c.next_tagged-b-in-loop-b.ensures.1,
+  blocks_skip c.requires.1 c.requires.2 c.args.g c.args.save (c.loop-b.b + 1)
+      c.next_tagged-b-in-loop-b.result
+      c.next_tagged-b-in-loop-b.ensures.0 c.next_tagged-b-in-loop-b.ensures.1 c.next_tagged-b-in-loop-b.ensures.2
+      (blocks_again c.requires.1 c.requires.2 c.args.g c.args.save c.loop-b.b
+      c.loop-b-test.true c.loop-b.invariant.1 c.copy_block-left.ensures),
+)
 
 pub returns : goal.returns
 unfolding blocks_copied

@@ -4,7 +4,6 @@ use mathlib.Core.Path.{refl, sym, ◌∙◌, ap}
 use mathlib.Core.Logic.{inl}
 use native.Mathlib.Omega.{arith}
 use Rattle.protocol.specs.Image.{total, base}
-use Rattle.boards.proofs.Basics.{not_true, not_false}
 use Rattle.layout.proofs.Laws.{bounded}
 use Rattle.blocks.proofs.Blocks.{context_fits, context_left, context_done}
 use Rattle.blocks.proofs.copy_context.Goals as goal

@@ -1,5 +1,4 @@
 -- `copy_contexts` meets its contract: after i rounds the contexts of the members below i are saved, read off the entry.
-use Prim.Native.Nat.{◌-◌}
 use mathlib.Core.Path.{◌≡◌, ◌∙◌, subst}
 use native.Mathlib.Omega.{arith}
 use Rattle.boards.specs.Lists.{for}
@@ -23,12 +22,11 @@ pub overflow_step-i : goal.overflow_step-i
 overflow_step-i c = omega (arith, bounded c.requires.0)
 
 pub loop-i-preserved : goal.loop-i-preserved
-loop-i-preserved c =
-    (
-      omega arith,
-      contexts_again c.requires.1 c.requires.2 c.args.g c.loop-i.i (omega arith) c.loop-i.invariant.1
-          c.copy_context-left.ensures,
-    )
+loop-i-preserved c = (
+  omega arith,
+  contexts_again c.requires.1 c.requires.2 c.args.g c.loop-i.i (omega arith) c.loop-i.invariant.1
+      c.copy_context-left.ensures,
+)
 
 pub returns : goal.returns
 returns c =

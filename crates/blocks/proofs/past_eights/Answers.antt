@@ -4,7 +4,6 @@ use mathlib.Core.Path.{◌≡◌, ◌∙◌, ap}
 use mathlib.Core.Logic.{⊎_elim}
 use native.Mathlib.Omega.{arith}
 use lib.ListN.{get_or}
-use Rattle.boards.proofs.Basics.{not_false}
 use Rattle.boards.proofs.Groups.{below_or}
 use Rattle.protocol.specs.Image.{total}
 use Rattle.layout.specs.Headers.{tags_at}

@@ -42,7 +42,7 @@ returns-then-board_of-s c =
     -- what is known once the header is read
     let known : (in_order 0 c.args.image.now ≡ true) × Shaped c.args.image.now c.in-InOrder.s = headed c.read_header.ensures c.in-InOrder.is in
     let board-same : board_of (shape_of c.args.image.now) c.args.who ≡ c.board_of.result =
-        same_board c.args.who (known).1 c.board_of.ensures in
+    same_board c.args.who (known).1 c.board_of.ensures in
     -- what is known once header and record are passed: the board is that of the image's shape
     let recorded : bad_record c.in-InOrder.s.boards
     c.args.state ≡ false = sym c.bad_record.ensures ∙ c.if-bad_record.false in
@@ -58,7 +58,7 @@ returns c =
     let recorded : bad_record c.in-InOrder.s.boards
     c.args.state ≡ false = sym c.bad_record.ensures ∙ c.if-bad_record.false in
     let board-same : board_of (shape_of c.args.image.now) c.args.who ≡ c.board_of.result =
-        same_board c.args.who (known).1 c.board_of.ensures in
+    same_board c.args.who (known).1 c.board_of.ensures in
     let h = known in
     let fine = recorded in
     let board = subst (λ i. i < c.in-InOrder.s.boards) (sym (board-same)) c.if-board_of-s.false in

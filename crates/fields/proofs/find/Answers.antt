@@ -1,7 +1,5 @@
 -- `find` meets its contract: the characters passed and those still before the first d are all before it.
-use Prim.Native.Nat.{◌-◌}
 use native.Mathlib.Omega.{arith}
-use Rattle.text.specs.Fields.{until}
 use Rattle.fields.proofs.Laws.{until_stop, until_more, until_end}
 use Rattle.fields.proofs.find.Goals as goal
 

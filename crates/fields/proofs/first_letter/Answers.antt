@@ -3,7 +3,6 @@ use mathlib.Core.Path.{◌≡◌, sym, ◌∙◌}
 use native.Mathlib.Omega.{arith}
 use borrow.Author.Tests.{eqb-true, eqb-false}
 use lib.ListN.{length}
-use Rattle.boards.proofs.Basics.{not_true, not_false}
 use Rattle.text.specs.Fields.{before}
 use Rattle.fields.proofs.Laws.{before_fits, letter_none, letter_one}
 use Rattle.fields.proofs.first_letter.Goals as goal

@@ -1,5 +1,4 @@
 -- `look_up` meets its contract: the character is not the letter of an entry passed.
-use Prim.Native.Nat.{◌-◌}
 use mathlib.Core.Path.{◌≡◌, refl, sym, ◌∙◌}
 use native.Mathlib.Omega.{arith}
 use mathlib.Core.List.{[]}

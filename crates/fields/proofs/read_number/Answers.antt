@@ -1,5 +1,4 @@
 -- `read_number` meets its contract: the digits passed made v, and those still to come go on from it.
-use Prim.Native.Nat.{◌-◌}
 use mathlib.Core.Path.{refl, sym, ◌∙◌}
 use native.Mathlib.Omega.{arith}
 use Rattle.text.specs.Fields.{comma}

@@ -1,8 +1,7 @@
 -- `read_numbers` meets its contract: the fields passed are numbers, and `end` is where the last of them ends.
-use Prim.Native.Nat.{◌-◌}
 use mathlib.Core.Path.{◌≡◌, refl, sym, ◌∙◌, ap}
 use native.Mathlib.Omega.{arith}
-use lib.ListN.{length, get_or, length-set}
+use lib.ListN.{get_or, length-set}
 use lib.Seq.{get_or-set_same, get_or-set_other}
 use borrow.Author.Count.{below_none, below_more}
 use Rattle.text.specs.Fields.{Value}
@@ -30,8 +29,7 @@ overflow_add-end c =
 
 pub loop-i-preserved : goal.loop-i-preserved
 loop-i-preserved c =
-    let read = read_value c.loop-i.invariant.2 c.read_number.ensures c.in-Number.is in
-    (
+    let read = read_value c.loop-i.invariant.2 c.read_number.ensures c.in-Number.is in (
       omega arith,
       length-set c.loop-i.values c.loop-i.i _ ∙ c.loop-i.invariant.1,
       ends_next c.loop-i.invariant.2 (omega arith) read.1,

@@ -12,10 +12,9 @@ overflow_add-result c =
     omega (arith, c.requires.2, count_le 16 (has c.args.before.added))
 
 pub returns : goal.returns
-returns c =
-    (
-      c.union.ensures
-          ∙ ap (union c.args.before.members) c.row_or_column-boards.ensures,
-      c.with_board.ensures,
-      add-one _,
-    )
+returns c = (
+  c.union.ensures
+      ∙ ap (union c.args.before.members) c.row_or_column-boards.ensures,
+  c.with_board.ensures,
+  add-one _,
+)

@@ -1,5 +1,4 @@
 -- `column` meets its contract: of the boards before b those are left that depend on a.
-use Prim.Native.Nat.{◌-◌}
 use mathlib.Core.Path.{◌∙◌, ap, ap₂}
 use mathlib.Core.Bool.{true}
 use native.Mathlib.Omega.{arith}
@@ -13,13 +12,12 @@ loop-b-init c = (omega arith, remaining_first (followed c.args.rows true c.args.
 
 pub loop-b-preserved : goal.loop-b-preserved
 unfolding turned links_of
-loop-b-preserved c =
-    (
-      omega arith,
-      c.keep-boards.ensures
-          ∙ ap₂ (λ t g. kept t c.loop-b.b g) c.has-linked.ensures c.loop-b.invariant.1
-          ∙ remaining_next (followed c.args.rows true c.args.a) c.loop-b.b,
-    )
+loop-b-preserved c = (
+  omega arith,
+  c.keep-boards.ensures
+      ∙ ap₂ (λ t g. kept t c.loop-b.b g) c.has-linked.ensures c.loop-b.invariant.1
+      ∙ remaining_next (followed c.args.rows true c.args.a) c.loop-b.b,
+)
 
 pub returns : goal.returns
 returns c =

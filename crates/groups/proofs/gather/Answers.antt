@@ -1,12 +1,12 @@
 -- `gather` meets its contract: n passes are made, each adds a row at least, and the last has added all.
-use Prim.Native.Nat.{suc, ◌-◌, ◌^◌, ◌<◌}
+use Prim.Native.Nat.{suc, ◌^◌, ◌<◌}
 use mathlib.Core.Path.{◌≡◌, refl, ◌∙◌, sym, ap}
 use mir.Syntax.{w16}
 use mir.Val.{Fits}
 use native.Mathlib.Omega.{arith}
 use borrow.Author.Rules.{rules}
 use Rattle.boards.specs.Lists.{count}
-use Rattle.boards.specs.Boards.{has, single, pass, passes}
+use Rattle.boards.specs.Boards.{has, pass, passes}
 use Rattle.boards.proofs.Groups.{count_le}
 use Rattle.groups.specs.Search.{followed, with_rows}
 use Rattle.groups.proofs.Passes.{begun, passed, fewer, found_early}
@@ -20,30 +20,30 @@ loop-progress-init c =
 pub loop-progress-smaller : goal.loop-progress-smaller
 loop-progress-smaller c =
     let small : (c.loop-progress.progress.members < 2 ^ 16) × (c.loop-progress.progress.added < 2 ^ 16) =
-        let members : Fits w16 c.loop-progress.progress.members = search rules in
-        let added : Fits w16 c.loop-progress.progress.added = search rules in
-        (members.fits, added.fits) in
+    let members : Fits w16 c.loop-progress.progress.members = search rules in
+    let added : Fits w16 c.loop-progress.progress.added = search rules in
+    (members.fits, added.fits) in
     -- a pass adds a row at least
     let more : c.loop-progress.progress.count < c.pass-progress.result.count =
-        let less =
-        fewer c.loop-progress.progress.added c.loop-progress.progress.members (small).1 (small).0 c.loop-progress.invariant.0.inside
-        c.loop-progress-test.true in
-        omega (arith, less, c.loop-progress.invariant.0.counted, c.pass-progress.ensures.2 ∙ ap (λ g. count 16 (has g)) c.pass-progress.ensures.1) in
+    let less =
+    fewer c.loop-progress.progress.added c.loop-progress.progress.members (small).1 (small).0 c.loop-progress.invariant.0.inside
+    c.loop-progress-test.true in
+    omega (arith, less, c.loop-progress.invariant.0.counted, c.pass-progress.ensures.2 ∙ ap (λ g. count 16 (has g)) c.pass-progress.ensures.1) in
     omega (arith, more, c.pass-progress.ensures.2, count_le 16 (has c.pass-progress.result.added))
 
 pub loop-progress-preserved : goal.loop-progress-preserved
 unfolding passes
 loop-progress-preserved c =
     let small : (c.loop-progress.progress.members < 2 ^ 16) × (c.loop-progress.progress.added < 2 ^ 16) =
-        let members : Fits w16 c.loop-progress.progress.members = search rules in
-        let added : Fits w16 c.loop-progress.progress.added = search rules in
-        (members.fits, added.fits) in
+    let members : Fits w16 c.loop-progress.progress.members = search rules in
+    let added : Fits w16 c.loop-progress.progress.added = search rules in
+    (members.fits, added.fits) in
     -- a pass adds a row at least
     let more : c.loop-progress.progress.count < c.pass-progress.result.count =
-        let less =
-        fewer c.loop-progress.progress.added c.loop-progress.progress.members (small).1 (small).0 c.loop-progress.invariant.0.inside
-        c.loop-progress-test.true in
-        omega (arith, less, c.loop-progress.invariant.0.counted, c.pass-progress.ensures.2 ∙ ap (λ g. count 16 (has g)) c.pass-progress.ensures.1) in
+    let less =
+    fewer c.loop-progress.progress.added c.loop-progress.progress.members (small).1 (small).0 c.loop-progress.invariant.0.inside
+    c.loop-progress-test.true in
+    omega (arith, less, c.loop-progress.invariant.0.counted, c.pass-progress.ensures.2 ∙ ap (λ g. count 16 (has g)) c.pass-progress.ensures.1) in
     let d = followed c.args.rows c.args.back in
     let (members, added, counted) = c.pass-progress.ensures in
     let (n, few, reached) = c.loop-progress.invariant.1 in (

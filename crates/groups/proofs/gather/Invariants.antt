@@ -1,7 +1,6 @@
 use Prim.Native.Nat.{ℕ, ◌-◌, ◌≤◌}
 use mathlib.Core.Path.{◌≡◌}
-use Rattle.boards.specs.Lists.{count}
-use Rattle.boards.specs.Boards.{single, pass, passes}
+use Rattle.boards.specs.Boards.{single, passes}
 use Rattle.groups.specs.Search.{followed, PassInvariant}
 use Rattle.groups.proofs.gather.Given as goal
 

@@ -1,6 +1,5 @@
 use Prim.Native.Nat.{◌-◌, ◌^◌, ◌<◌}
 use mathlib.Core.Path.{◌≡◌}
-use Rattle.boards.specs.Lists.{count}
 use Rattle.boards.specs.Rows.{minus}
 use Rattle.groups.specs.Search.{followed, PassInvariant}
 use Rattle.groups.proofs.pass.Given as goal

@@ -1,8 +1,6 @@
 -- `pairs` meets its contract: the whole is pairs of digits exactly if what follows the pairs passed is.
-use Prim.Native.Nat.{◌-◌}
 use mathlib.Core.Path.{refl, sym, ◌∙◌}
 use native.Mathlib.Omega.{arith}
-use Rattle.text.specs.Fields.{pairs}
 use Rattle.hexadecimal.proofs.Laws.{pairs_high, pairs_low, pairs_more, pairs_end}
 use Rattle.hexadecimal.proofs.pairs.Goals as goal
 

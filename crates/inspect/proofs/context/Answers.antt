@@ -25,8 +25,8 @@ overflow_mul-at c =
     -- where the context is placed, it ends within the image
     let ends : let end = c.checkpoint_at.result + c.args.board * c.in-InOrder.s.context + c.in-InOrder.s.context in
     (end ≤ length c.args.image.now) × (length c.args.image.now < 65536) =
-        let h = headed c.read_header.ensures c.in-InOrder.is in
-        context_ends _ _ h c.checkpoint_at.ensures c.if-board-s.false in
+    let h = headed c.read_header.ensures c.in-InOrder.is in
+    context_ends _ _ h c.checkpoint_at.ensures c.if-board-s.false in
     omega (arith, ends)
 
 pub overflow_add-at : goal.overflow_add-at
@@ -34,8 +34,8 @@ overflow_add-at c =
     -- where the context is placed, it ends within the image
     let ends : let end = c.checkpoint_at.result + c.args.board * c.in-InOrder.s.context + c.in-InOrder.s.context in
     (end ≤ length c.args.image.now) × (length c.args.image.now < 65536) =
-        let h = headed c.read_header.ensures c.in-InOrder.is in
-        context_ends _ _ h c.checkpoint_at.ensures c.if-board-s.false in
+    let h = headed c.read_header.ensures c.in-InOrder.is in
+    context_ends _ _ h c.checkpoint_at.ensures c.if-board-s.false in
     omega (arith, ends)
 
 pub overflow_add-end : goal.overflow_add-end
@@ -43,8 +43,8 @@ overflow_add-end c =
     -- where the context is placed, it ends within the image
     let ends : let end = c.checkpoint_at.result + c.args.board * c.in-InOrder.s.context + c.in-InOrder.s.context in
     (end ≤ length c.args.image.now) × (length c.args.image.now < 65536) =
-        let h = headed c.read_header.ensures c.in-InOrder.is in
-        context_ends _ _ h c.checkpoint_at.ensures c.if-board-s.false in
+    let h = headed c.read_header.ensures c.in-InOrder.is in
+    context_ends _ _ h c.checkpoint_at.ensures c.if-board-s.false in
     omega (arith, ends)
 
 pub slice_bounds-result-end : goal.slice_bounds-result-end
@@ -52,8 +52,8 @@ slice_bounds-result-end c =
     -- where the context is placed, it ends within the image
     let ends : let end = c.checkpoint_at.result + c.args.board * c.in-InOrder.s.context + c.in-InOrder.s.context in
     (end ≤ length c.args.image.now) × (length c.args.image.now < 65536) =
-        let h = headed c.read_header.ensures c.in-InOrder.is in
-        context_ends _ _ h c.checkpoint_at.ensures c.if-board-s.false in
+    let h = headed c.read_header.ensures c.in-InOrder.is in
+    context_ends _ _ h c.checkpoint_at.ensures c.if-board-s.false in
     omega (arith, ends)
 
 pub returns : goal.returns

@@ -1,8 +1,5 @@
 -- `layout::mark_ok` meets its contract: the first i bytes are those of the mark.
-use Prim.Native.Nat.{◌-◌}
 use mathlib.Core.Path.{refl, sym}
-use mathlib.Core.Bool.{true}
-use lib.Dec.{eqb}
 use native.Mathlib.Omega.{arith}
 use native.Mathlib.Numerals.{add-one}
 use borrow.Author.Tests.{eq-eqb, ne_eqb}

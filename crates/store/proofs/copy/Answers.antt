@@ -1,10 +1,10 @@
 -- `copy` makes the stores of the rounds so far, each with the byte of the entry: no store is made where a byte is read.
-use Prim.Native.Nat.{ℕ, ◌+◌, ◌-◌, ◌≤◌, ◌<◌}
+use Prim.Native.Nat.{ℕ, ◌+◌, ◌≤◌, ◌<◌}
 use mathlib.Core.Path.{◌≡◌, refl}
 use mathlib.Core.List.{List, [], ◌∷◌}
 use mathlib.Core.Logic.{◌≢◌, ◌⊎◌, ⊎_elim}
 use native.Mathlib.Omega.{arith}
-use lib.ListN.{length, get_or}
+use lib.ListN.{get_or}
 use Rattle.boards.proofs.Basics.{All}
 use Rattle.boards.specs.Lists.{span}
 use Rattle.protocol.specs.Image.{Store}

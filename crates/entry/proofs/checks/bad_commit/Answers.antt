@@ -1,7 +1,7 @@
 -- `bad_commit` meets its contract, test by test.
 use mathlib.Core.Path.{◌∙◌, sym}
 use borrow.Author.Tests.{eq-eqb, ne_eqb}
-use Rattle.volatile.specs.Volatile.{bad_commit, bad_closed, bad_open}
+use Rattle.volatile.specs.Volatile.{bad_commit}
 use Rattle.boards.proofs.Basics.{if_true, if_false}
 use Rattle.entry.proofs.Chains.{or_stop, or_pass}
 use Rattle.entry.proofs.checks.bad_commit.Goals as goal

@@ -1,11 +1,9 @@
 -- `bad_rows` meets its contract: no row before i is bad.
-use Prim.Native.Nat.{◌-◌}
 use mathlib.Core.Path.{◌∙◌, sym, ap, refl}
-use mathlib.Core.Bool.{false}
 use native.Mathlib.Numerals.{add-one}
 use native.Mathlib.Omega.{arith}
 use Rattle.boards.specs.Lists.{any}
-use Rattle.volatile.specs.Volatile.{bad_row, bad_rows}
+use Rattle.volatile.specs.Volatile.{bad_rows}
 use Rattle.boards.proofs.Basics.{some_any, false_or}
 use Rattle.entry.proofs.checks.bad_rows.Invariants.{bad-at}
 use Rattle.entry.proofs.checks.bad_rows.Goals as goal
@@ -22,12 +20,11 @@ returns-then-bad_row c =
 
 pub loop-i-preserved : goal.loop-i-preserved
 unfolding any
-loop-i-preserved c =
-    (
-      omega arith,
-      ap (λ n. any n (bad-at c.args.p c.args.rows)) (add-one c.loop-i.i)
-          ∙ false_or c.loop-i.invariant.1 (sym c.bad_row.ensures ∙ c.if-bad_row.false),
-    )
+loop-i-preserved c = (
+  omega arith,
+  ap (λ n. any n (bad-at c.args.p c.args.rows)) (add-one c.loop-i.i)
+      ∙ false_or c.loop-i.invariant.1 (sym c.bad_row.ensures ∙ c.if-bad_row.false),
+)
 
 pub returns : goal.returns
 unfolding bad_rows
