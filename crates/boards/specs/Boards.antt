@@ -1,5 +1,6 @@
 -- Sets of boards, tags, dependences between boards, and groups (document 01, "The image", "The record", "Groups").
-use Rattle.std.specs.Prelude.{ℕ, zero, suc, ◌+◌, ◌*◌, ◌/◌, ◌%◌, ◌^◌, ◌<◌, ◌≡◌, Bool, true, false, ◌&&◌, ◌||◌, not, cond, ◌⊎◌, ◌↔◌, eqb, leb}
+use Rattle.std.specs.Prelude.{ℕ, zero, suc, ◌+◌, ◌*◌, ◌/◌, ◌%◌, ◌^◌, ◌<◌, ◌≡◌, Bool, true, false, ◌&&◌, ◌||◌, not}
+use Rattle.std.specs.Prelude.{cond, ◌⊎◌, ◌↔◌, eqb, leb}
 use Rattle.boards.specs.Lists.{any, every}
 use Rattle.boards.specs.declared.Writer.{Writer}
 use Rattle.boards.specs.declared.Writer.TheVariants.{Nobody, Board}

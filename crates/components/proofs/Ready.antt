@@ -127,7 +127,8 @@ module _ {d : Links} (b : Bounded 16 d) where
           stays = both.0;
           mutual_with = λ j c y.
               let reach = (in_commit_group b i l j).1 c in
-              let inside = (in_set (λ j. has (commit_group d i) j && has left j) j).1 (left_below y, true_and reach y) in
+              let inside = (in_set (λ j. has (commit_group d i) j && has left j) j).1
+              (left_below y, true_and reach y) in
               ((in_component i l j).0 (sym (ap (λ g. has g j) same) ∙ inside)).1;
         }
 

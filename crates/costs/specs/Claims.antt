@@ -1,6 +1,7 @@
 -- That forecasts are right (document 02, Req 02): of a fault made next, and of a commit started next, over every list
 -- of calls up to its decision. Any image and record, not only those that a list of calls leaves.
-use Rattle.std.specs.Prelude.{ℕ, ◌+◌, ◌-◌, ◌≤◌, ◌<◌, ◌≡◌, Bool, true, false, ◌&&◌, ◌||◌, not, cond, List, [], ◌∷◌, map, ◌≢◌, ◌⊎◌, eqb, leb, length}
+use Rattle.std.specs.Prelude.{ℕ, ◌+◌, ◌-◌, ◌≤◌, ◌<◌, ◌≡◌, Bool, true, false, ◌&&◌, ◌||◌, not, cond, List, [], ◌∷◌}
+use Rattle.std.specs.Prelude.{map, ◌≢◌, ◌⊎◌, eqb, leb, length}
 use Rattle.boards.specs.Lists.{any_of}
 use Rattle.boards.specs.Boards.{has, meets}
 use Rattle.volatile.specs.declared.Record.{Record}

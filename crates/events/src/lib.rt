@@ -75,7 +75,8 @@ fn take_numbers(line: &[u8], letter: u8, commas: u8) -> Parsed
 
 // W, C, else A, with its numbers and the count of its bytes.
 fn with_count(letter: u8, v: Values, count: usize) -> Parsed
-    ensures { ((b : List ℕ) → meant result b ≡ of_bytes letter (values_of v) (take count b)) × (counted result ≡ count) }
+    ensures { ((b : List ℕ) → meant result b ≡ of_bytes letter (values_of v) (take count b))
+        × (counted result ≡ count) }
 {
     if letter == WRITE {
         return Parsed::Write {

@@ -1,5 +1,6 @@
 -- That pages are right (document 02, Req 05).
-use Rattle.std.specs.Prelude.{ℕ, suc, ◌+◌, ◌-◌, ◌*◌, ◌^◌, ◌<◌, ◌≡◌, Bool, false, ◌&&◌, not, cond, List, [], ◌∷◌, ◌++◌, eqb, ltb, length, take}
+use Rattle.std.specs.Prelude.{ℕ, suc, ◌+◌, ◌-◌, ◌*◌, ◌^◌, ◌<◌, ◌≡◌, Bool, false, ◌&&◌, not, cond, List, [], ◌∷◌}
+use Rattle.std.specs.Prelude.{◌++◌, eqb, ltb, length, take}
 use Rattle.boards.specs.Lists.{any_of}
 use Rattle.protocol.specs.Image.{Memory, Decision, shape_of, view}
 use Rattle.protocol.specs.Calls.{Request, stored_group, perform}

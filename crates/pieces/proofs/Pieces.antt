@@ -87,7 +87,8 @@ pub moved_more : (b x : List ℕ) (from i : ℕ) → from + i < length b → len
     × (drop (i + 1) (set x i (get_or x (from + i) 0)) ≡ drop (i + 1) b)
 moved_more b x from i l same front back =
     let byte : get_or x (from + i) 0 ≡ get_or (drop from b) i 0 =
-    ap (λ (k : ℕ). get_or x k 0) (add_comm from i) ∙ sym (get_or-drop i x from 0) ∙ ap (λ (y : List ℕ). get_or y from 0) back
+    ap (λ (k : ℕ). get_or x k 0) (add_comm from i) ∙ sym (get_or-drop i x from 0)
+    ∙ ap (λ (y : List ℕ). get_or y from 0) back
     ∙ get_or-drop i b from 0 ∙ ap (λ (k : ℕ). get_or b k 0) (add_comm i from) ∙ sym (get_or-drop from b i 0)
     in (
       rw (add-one i)

@@ -19,7 +19,8 @@ use Rattle.protocol.specs.Dependences.{width, is_write, in_blocks, wrote_all, la
 use Rattle.protocol.specs.Dependences.{depends_by_notes}
 use Rattle.protocol.specs.declared.Shape.{Shape}
 use Rattle.boards.proofs.Basics.{decide, clash, and_true, true_and, and_false, or_true, eqb_comm}
-use Rattle.boards.proofs.Basics.{not_true, refute, test_ext, some_any, any_some, none_any, All, none, also, false_any_of}
+use Rattle.boards.proofs.Basics.{not_true, refute, test_ext, some_any, any_some, none_any, All, none, also}
+use Rattle.boards.proofs.Basics.{false_any_of}
 use Rattle.boards.proofs.Basics.{every_at, every_all}
 use Rattle.protocol.proofs.Accesses.{cell_touched, all_found, whole_bounds, bounds_whole, goes_forth, goes_back}
 use Rattle.protocol.proofs.Marks.{Ends, keeps, undoes}

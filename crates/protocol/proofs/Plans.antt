@@ -211,7 +211,8 @@ module _ (image : List ℕ) (r : Record) where
 pub any_of_append : {X : Type 0} (t : X → Bool) (xs ys : List X) → any_of t (xs ++ ys) ≡ any_of t xs || any_of t ys
 unfolding any_of
 any_of_append t [] ys = refl
-any_of_append t (x ∷ xs) ys = ap (λ b. t x || b) (any_of_append t xs ys) ∙ sym (or_assoc (t x) (any_of t xs) (any_of t ys))
+any_of_append t (x ∷ xs) ys = ap (λ b. t x || b) (any_of_append t xs ys)
+    ∙ sym (or_assoc (t x) (any_of t xs) (any_of t ys))
 
 -- a put in its area that does not decide
 record Quiet (s : Shape) (p : Put) : Type 0 where

@@ -1,6 +1,7 @@
 -- Every call but Same: when it is refused, what it stores, what it answers (document 01, from "Accesses" to the
 -- refusals).
-use Rattle.std.specs.Prelude.{ℕ, suc, ◌+◌, ◌-◌, ◌*◌, ◌/◌, ◌%◌, Bool, false, ◌&&◌, ◌||◌, not, cond, List, [], ◌∷◌, ◌++◌, map, eqb, ltb, leb, length, get_or, take, drop}
+use Rattle.std.specs.Prelude.{ℕ, suc, ◌+◌, ◌-◌, ◌*◌, ◌/◌, ◌%◌, Bool, false, ◌&&◌, ◌||◌, not, cond, List, [], ◌∷◌}
+use Rattle.std.specs.Prelude.{◌++◌, map, eqb, ltb, leb, length, get_or, take, drop}
 use Rattle.boards.specs.Lists.{for, span, any, any_of}
 use Rattle.boards.specs.Boards.{has, beyond, tagged_in, tagged, commit_group, fault_group}
 use Rattle.protocol.specs.Image.{Memory, Area, Decision, Group, Tags, Current, Recovery, Tentative, Checkpoint}

@@ -1,5 +1,6 @@
 -- Demand 3 as a statement: what holds of every list of calls, on the definitions that the promises cite.
-use Rattle.std.specs.Prelude.{ℕ, suc, ◌+◌, ◌<◌, ◌≤◌, ◌≡◌, Bool, true, false, ◌&&◌, not, cond, List, [], ◌∷◌, ◌≢◌, length, eqb}
+use Rattle.std.specs.Prelude.{ℕ, suc, ◌+◌, ◌<◌, ◌≤◌, ◌≡◌, Bool, true, false, ◌&&◌, not, cond, List, [], ◌∷◌, ◌≢◌}
+use Rattle.std.specs.Prelude.{length, eqb}
 use Rattle.std.proofs.Math.Option.{Option}
 use Rattle.boards.specs.Lists.{any_of}
 use Rattle.boards.specs.Boards.{fault_group, Chain, Exactly}

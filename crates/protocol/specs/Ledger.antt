@@ -1,6 +1,7 @@
 -- The ledger (document 01, "The ledger"): it is told the shape, each request with its allowance, and whether it was
 -- refused, done or cut. Of a read's buffer it uses nothing.
-use Rattle.std.specs.Prelude.{ℕ, suc, ◌+◌, ◌-◌, Bool, true, false, ◌&&◌, not, cond, List, [], ◌∷◌, map, eqb, ltb, leb, length, get_or, replicate}
+use Rattle.std.specs.Prelude.{ℕ, suc, ◌+◌, ◌-◌, Bool, true, false, ◌&&◌, not, cond, List, [], ◌∷◌, map, eqb, ltb}
+use Rattle.std.specs.Prelude.{leb, length, get_or, replicate}
 use Rattle.std.proofs.Math.Option.{Option, none, some}
 use Rattle.boards.specs.Lists.{span, any_of, select}
 use Rattle.boards.specs.Boards.{has, with_board, meets, Links, unlinked, link, unlink, commit_group, fault_group}

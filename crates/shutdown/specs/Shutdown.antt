@@ -1,6 +1,7 @@
 -- What committing in the order of components does, with nothing else between (document 02, Req 07): each commit has
 -- exactly its component as group. Any image and record, not only those that a list of calls leaves.
-use Rattle.std.specs.Prelude.{ℕ, ◌+◌, ◌*◌, ◌^◌, ◌<◌, ◌≡◌, Bool, true, false, ◌&&◌, not, cond, List, [], ◌∷◌, ◌++◌, map, eqb, ltb, leb, length}
+use Rattle.std.specs.Prelude.{ℕ, ◌+◌, ◌*◌, ◌^◌, ◌<◌, ◌≡◌, Bool, true, false, ◌&&◌, not, cond, List, [], ◌∷◌, ◌++◌}
+use Rattle.std.specs.Prelude.{map, eqb, ltb, leb, length}
 use Rattle.boards.specs.Lists.{any_of}
 use Rattle.boards.specs.Boards.{has}
 use Rattle.volatile.specs.Volatile.{depends, engaged, bad_record}

@@ -3,7 +3,8 @@ use Prim.Native.Nat.{ℕ, ◌+◌, ◌-◌, ◌≤◌}
 use mathlib.Core.Path.{◌≡◌, sym, ◌∙◌, ap, ap₂}
 use mathlib.Core.List.{List, [], ◌∷◌, ◌++◌, append-nil}
 use mathlib.Core.Logic.{◌≢◌}
-use lib.ListN.{length, get_or, set, take, drop, take-append-drop, drop_of_length-le, length-drop, length-set, length-map}
+use lib.ListN.{length, get_or, set, take, drop, take-append-drop, drop_of_length-le, length-drop, length-set}
+use lib.ListN.{length-map}
 use lib.Seq.{take_all, drop-set-add, take-set-le}
 use native.Mathlib.Omega.{arith}
 use native.Mathlib.Nat.{zero-add}

@@ -21,7 +21,8 @@ bind_blocks-next-requires c =
     -- what is known once the tests are passed
     let known : let room = length c.args.buffer.now in
     (refusal_at c.args.image.now c.args.state (Read c.args.who c.args.cell c.args.n room) ≡ 0)
-    × Placed c.args.image.now c.args.state c.args.who c.args.cell c.args.n room c.in-Taken.p = if_admitted c.admit-admission.ensures c.in-Taken.is in
+    × Placed c.args.image.now c.args.state c.args.who c.args.cell c.args.n room c.in-Taken.p =
+    if_admitted c.admit-admission.ensures c.in-Taken.is in
     let place = within (known).1 in
     (place.board, place.first_tag, place.last_tag)
 
@@ -30,7 +31,8 @@ fill-requires c =
     -- what is known once the tests are passed
     let known : let room = length c.args.buffer.now in
     (refusal_at c.args.image.now c.args.state (Read c.args.who c.args.cell c.args.n room) ≡ 0)
-    × Placed c.args.image.now c.args.state c.args.who c.args.cell c.args.n room c.in-Taken.p = if_admitted c.admit-admission.ensures c.in-Taken.is in
+    × Placed c.args.image.now c.args.state c.args.who c.args.cell c.args.n room c.in-Taken.p =
+    if_admitted c.admit-admission.ensures c.in-Taken.is in
     let placed = (known).1 in
     (omega (arith, (within placed).cells), omega (arith, placed.fits))
 
@@ -42,6 +44,7 @@ returns c =
     -- what is known once the tests are passed
     let known : let room = length c.args.buffer.now in
     (refusal_at c.args.image.now c.args.state (Read c.args.who c.args.cell c.args.n room) ≡ 0)
-    × Placed c.args.image.now c.args.state c.args.who c.args.cell c.args.n room c.in-Taken.p = if_admitted c.admit-admission.ensures c.in-Taken.is in
+    × Placed c.args.image.now c.args.state c.args.who c.args.cell c.args.n room c.in-Taken.p =
+    if_admitted c.admit-admission.ensures c.in-Taken.is in
     read_done c.args.who c.args.cell c.args.n c.args.buffer.now (length c.args.buffer.now) (known)
     c.bind_blocks-next.ensures c.fill.ensures c.new-none.ensures c.finish.ensures

@@ -22,7 +22,8 @@ bind_blocks-next-requires c =
     -- what is known once the tests are passed
     let known : let n = length c.args.bytes.now in
     (refusal_at c.args.image.now c.args.state (Write c.args.who c.args.cell c.args.bytes.now) ≡ 0)
-    × Placed c.args.image.now c.args.state c.args.who c.args.cell n n c.in-Taken.p = if_admitted c.admit_write-admission.ensures c.in-Taken.is in
+    × Placed c.args.image.now c.args.state c.args.who c.args.cell n n c.in-Taken.p =
+    if_admitted c.admit_write-admission.ensures c.in-Taken.is in
     let place = within (known).1 in
     (place.board, place.first_tag, place.last_tag)
 
@@ -31,7 +32,8 @@ put_bytes-left-requires c =
     -- what is known once the tests are passed
     let known : let n = length c.args.bytes.now in
     (refusal_at c.args.image.now c.args.state (Write c.args.who c.args.cell c.args.bytes.now) ≡ 0)
-    × Placed c.args.image.now c.args.state c.args.who c.args.cell n n c.in-Taken.p = if_admitted c.admit_write-admission.ensures c.in-Taken.is in
+    × Placed c.args.image.now c.args.state c.args.who c.args.cell n n c.in-Taken.p =
+    if_admitted c.admit_write-admission.ensures c.in-Taken.is in
     let place = within (known).1 in
     (place.first_block, place.last_block, place.cells, place.board)
 
@@ -44,7 +46,8 @@ returns c =
     -- what is known once the tests are passed
     let known : let n = length c.args.bytes.now in
     (refusal_at c.args.image.now c.args.state (Write c.args.who c.args.cell c.args.bytes.now) ≡ 0)
-    × Placed c.args.image.now c.args.state c.args.who c.args.cell n n c.in-Taken.p = if_admitted c.admit_write-admission.ensures c.in-Taken.is in
+    × Placed c.args.image.now c.args.state c.args.who c.args.cell n n c.in-Taken.p =
+    if_admitted c.admit_write-admission.ensures c.in-Taken.is in
     let passed = known in
     write_done c.args.who c.args.cell c.args.bytes.now passed.1 passed.0 c.binding_of-how.ensures
     c.bind_blocks-next.ensures c.new-budget.ensures c.put_bytes-left.ensures c.finish.ensures

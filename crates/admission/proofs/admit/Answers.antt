@@ -66,7 +66,8 @@ returns-then-n-room c =
     c.args.cell
     c.args.n ≡ false = sym c.bad_range.ensures ∙ c.if-bad_range.false in
     -- and within the port's limit
-    let within_limit : over_port_limit c.args.who c.args.n ≡ false = sym c.over_port_limit.ensures ∙ c.if-over_port_limit.false in
+    let within_limit : over_port_limit c.args.who c.args.n ≡ false =
+    sym c.over_port_limit.ensures ∙ c.if-over_port_limit.false in
     refused (read_five c.args.who _ _ _ (known) (ok) (within_limit) c.if-n-room.true)
     (λ z. omega arith)
 
@@ -113,7 +114,8 @@ returns-then-p-s c =
     c.args.cell
     c.args.n ≡ false = sym c.bad_range.ensures ∙ c.if-bad_range.false in
     -- and within the port's limit
-    let within_limit : over_port_limit c.args.who c.args.n ≡ false = sym c.over_port_limit.ensures ∙ c.if-over_port_limit.false in
+    let within_limit : over_port_limit c.args.who c.args.n ≡ false =
+    sym c.over_port_limit.ensures ∙ c.if-over_port_limit.false in
     -- once the place is known, the tags of both blocks and the board decide
     let rest : refusal_at c.args.image.now c.args.state (Read c.args.who c.args.cell c.args.n c.args.room)
     ≡ first
@@ -136,7 +138,8 @@ returns-then-p-s-2 c =
     c.args.cell
     c.args.n ≡ false = sym c.bad_range.ensures ∙ c.if-bad_range.false in
     -- and within the port's limit
-    let within_limit : over_port_limit c.args.who c.args.n ≡ false = sym c.over_port_limit.ensures ∙ c.if-over_port_limit.false in
+    let within_limit : over_port_limit c.args.who c.args.n ≡ false =
+    sym c.over_port_limit.ensures ∙ c.if-over_port_limit.false in
     -- once the place is known, the tags of both blocks and the board decide
     let rest : refusal_at c.args.image.now c.args.state (Read c.args.who c.args.cell c.args.n c.args.room)
     ≡ first
@@ -152,7 +155,8 @@ returns-then-p-s-2 c =
     (test (ltb c.in-Taken.s.boards c.locate-p.result.last.tag) 11
     ∷ test (has (engaged c.args.state) (board_of c.in-Taken.s c.args.who)) 13
     ∷ []) = rest ∙ first_passed 11 _ (le-ltb _ _ c.if-p-s.false) in
-    refused (second ∙ first_held 11 _ (lt-ltb _ c.locate-p.result.last.tag (omega (arith, c.if-p-s-2.true, c.if-p-s.false))))
+    refused (second ∙ first_held 11 _ (lt-ltb _ c.locate-p.result.last.tag
+    (omega (arith, c.if-p-s-2.true, c.if-p-s.false))))
     (λ z. omega arith)
 
 pub has-requires : goal.has-requires
@@ -178,7 +182,8 @@ returns-then-has c =
     c.args.cell
     c.args.n ≡ false = sym c.bad_range.ensures ∙ c.if-bad_range.false in
     -- and within the port's limit
-    let within_limit : over_port_limit c.args.who c.args.n ≡ false = sym c.over_port_limit.ensures ∙ c.if-over_port_limit.false in
+    let within_limit : over_port_limit c.args.who c.args.n ≡ false =
+    sym c.over_port_limit.ensures ∙ c.if-over_port_limit.false in
     -- once the place is known, the tags of both blocks and the board decide
     let rest : refusal_at c.args.image.now c.args.state (Read c.args.who c.args.cell c.args.n c.args.room)
     ≡ first
@@ -220,7 +225,8 @@ returns c =
     c.args.cell
     c.args.n ≡ false = sym c.bad_range.ensures ∙ c.if-bad_range.false in
     -- and within the port's limit
-    let within_limit : over_port_limit c.args.who c.args.n ≡ false = sym c.over_port_limit.ensures ∙ c.if-over_port_limit.false in
+    let within_limit : over_port_limit c.args.who c.args.n ≡ false =
+    sym c.over_port_limit.ensures ∙ c.if-over_port_limit.false in
     -- once the place is known, the tags of both blocks and the board decide
     let rest : refusal_at c.args.image.now c.args.state (Read c.args.who c.args.cell c.args.n c.args.room)
     ≡ first
@@ -248,7 +254,8 @@ returns c =
         let passed = known in
         let member = c.has.ensures ∙ ap (λ g. has g c.board_of-board.result) c.engaged-members.ensures
         ∙ ap (has _) c.board_of-board.ensures in (
-          second ∙ first_passed 11 (test (has (engaged c.args.state) (board_of c.in-Taken.s c.args.who)) 13 ∷ []) (le-ltb _ c.locate-p.result.last.tag (omega (arith, c.if-p-s-2.false)))
+          second ∙ first_passed 11 (test (has (engaged c.args.state) (board_of c.in-Taken.s c.args.who)) 13 ∷ [])
+          (le-ltb _ c.locate-p.result.last.tag (omega (arith, c.if-p-s-2.false)))
               ∙ ap (λ b. first (test b 13 ∷ [])) (sym member),
           placed _ c.board_of-board.ensures c.locate-p.ensures passed.1 (ok) c.if-n-room.false
               c.if-p-s.false c.if-p-s-2.false,

@@ -78,6 +78,7 @@ returns c =
     ≡ first (test c.tagged_in-2.result 13 ∷ []) =
         let last_tag = c.tagged_in-2.ensures ∙ ap (λ g. tagged_in g c.in-Taken.p.last.tag) c.engaged-members.ensures in
         (rest).0
-        ∙ first_passed 13 (test (tagged_in (engaged c.args.state) c.in-Taken.p.last.tag) 13 ∷ []) (first_tag ∙ c.if-tagged_in.false)
+        ∙ first_passed 13 (test (tagged_in (engaged c.args.state) c.in-Taken.p.last.tag) 13 ∷ [])
+        (first_tag ∙ c.if-tagged_in.false)
         ∙ ap (λ b. first (test b 13 ∷ [])) (sym last_tag) in
     passed (second ∙ first_passed 13 [] c.if-tagged_in-2.false) (rest).1

@@ -12,7 +12,8 @@ use Rattle.admission.proofs.locate.Goals as goal
 pub block_of-from-requires : goal.block_of-from-requires
 block_of-from-requires c =
     -- the power that the header holds is one of a block size
-    let power : (9 ≤ length c.args.image.now) × (byte c.args.image.now 5 ≤ 6) = let p = shaped_power c.requires.0 in (omega (arith, p.0), p.1) in
+    let power : (9 ≤ length c.args.image.now) × (byte c.args.image.now 5 ≤ 6) =
+    let p = shaped_power c.requires.0 in (omega (arith, p.0), p.1) in
     power
 
 pub overflow_add-cell : goal.overflow_add-cell
@@ -40,7 +41,8 @@ overflow_sub-cell c =
 pub block_of-to-requires : goal.block_of-to-requires
 block_of-to-requires c =
     -- the power that the header holds is one of a block size
-    let power : (9 ≤ length c.args.image.now) × (byte c.args.image.now 5 ≤ 6) = let p = shaped_power c.requires.0 in (omega (arith, p.0), p.1) in
+    let power : (9 ≤ length c.args.image.now) × (byte c.args.image.now 5 ≤ 6) =
+    let p = shaped_power c.requires.0 in (omega (arith, p.0), p.1) in
     power
 
 pub block_at-first-requires : goal.block_at-first-requires

@@ -22,21 +22,24 @@ pub overflow_cast-i : goal.overflow_cast-i
 overflow_cast-i c =
     -- what is known once the tests are passed
     let known : (refusal_at c.args.image.now c.args.state (Acknowledge c.args.board c.args.context.now) ≡ 0)
-    × Offered c.args.image.now c.args.state c.args.board (length c.args.context.now) c.in-Taken.s = if_taken c.acknowledge_entry-entry.ensures c.in-Taken.is in
+    × Offered c.args.image.now c.args.state c.args.board (length c.args.context.now) c.in-Taken.s =
+    if_taken c.acknowledge_entry-entry.ensures c.in-Taken.is in
     omega (arith, small (known).1.entry)
 
 pub acknowledge-next-requires : goal.acknowledge-next-requires
 acknowledge-next-requires c =
     -- what is known once the tests are passed
     let known : (refusal_at c.args.image.now c.args.state (Acknowledge c.args.board c.args.context.now) ≡ 0)
-    × Offered c.args.image.now c.args.state c.args.board (length c.args.context.now) c.in-Taken.s = if_taken c.acknowledge_entry-entry.ensures c.in-Taken.is in
+    × Offered c.args.image.now c.args.state c.args.board (length c.args.context.now) c.in-Taken.s =
+    if_taken c.acknowledge_entry-entry.ensures c.in-Taken.is in
     small (known).1.entry
 
 pub give-requires : goal.give-requires
 give-requires c =
     -- what is known once the tests are passed
     let known : (refusal_at c.args.image.now c.args.state (Acknowledge c.args.board c.args.context.now) ≡ 0)
-    × Offered c.args.image.now c.args.state c.args.board (length c.args.context.now) c.in-Taken.s = if_taken c.acknowledge_entry-entry.ensures c.in-Taken.is in
+    × Offered c.args.image.now c.args.state c.args.board (length c.args.context.now) c.in-Taken.s =
+    if_taken c.acknowledge_entry-entry.ensures c.in-Taken.is in
     let offered = (known).1 in
     let entry = offered.entry in
     let group = acknowledged_group c.args.state c.args.board c.acknowledge-next.ensures
@@ -48,7 +51,8 @@ unfolding plan
 returns c =
     -- what is known once the tests are passed
     let known : (refusal_at c.args.image.now c.args.state (Acknowledge c.args.board c.args.context.now) ≡ 0)
-    × Offered c.args.image.now c.args.state c.args.board (length c.args.context.now) c.in-Taken.s = if_taken c.acknowledge_entry-entry.ensures c.in-Taken.is in
+    × Offered c.args.image.now c.args.state c.args.board (length c.args.context.now) c.in-Taken.s =
+    if_taken c.acknowledge_entry-entry.ensures c.in-Taken.is in
     let passed = known in
     let done = c.give.ensures _ c.acknowledge-next.ensures in
     performed c.args.state (Acknowledge c.args.board c.args.context.now) passed.1.entry.shaped.shape

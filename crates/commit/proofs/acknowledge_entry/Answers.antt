@@ -25,7 +25,8 @@ overflow_cast-i c =
     -- what is known once the beginning is passed
     let known : let n = length c.args.context.now in
     (first (begin_tests c.args.image.now c.args.state c.args.board n) ≡ 0)
-    × Offered c.args.image.now c.args.state c.args.board n c.in-Taken.s = if_taken c.begin-entry.ensures c.in-Taken.is in
+    × Offered c.args.image.now c.args.state c.args.board n c.in-Taken.s =
+    if_taken c.begin-entry.ensures c.in-Taken.is in
     omega (arith, small (known).1.entry)
 
 pub has-requires : goal.has-requires
@@ -33,7 +34,8 @@ has-requires c =
     -- what is known once the beginning is passed
     let known : let n = length c.args.context.now in
     (first (begin_tests c.args.image.now c.args.state c.args.board n) ≡ 0)
-    × Offered c.args.image.now c.args.state c.args.board n c.in-Taken.s = if_taken c.begin-entry.ensures c.in-Taken.is in
+    × Offered c.args.image.now c.args.state c.args.board n c.in-Taken.s =
+    if_taken c.begin-entry.ensures c.in-Taken.is in
     small (known).1.entry
 
 pub returns-then-not-has : goal.returns-then-not-has
@@ -41,7 +43,8 @@ returns-then-not-has c =
     -- what is known once the beginning is passed
     let known : let n = length c.args.context.now in
     (first (begin_tests c.args.image.now c.args.state c.args.board n) ≡ 0)
-    × Offered c.args.image.now c.args.state c.args.board n c.in-Taken.s = if_taken c.begin-entry.ensures c.in-Taken.is in
+    × Offered c.args.image.now c.args.state c.args.board n c.in-Taken.s =
+    if_taken c.begin-entry.ensures c.in-Taken.is in
     -- whether the board is a member, as the code found it
     let member : has (engaged c.args.state) c.args.board ≡ c.has.result =
         sym (c.has.ensures ∙ ap (λ g. has g c.args.board) c.engaged-engaged.ensures) in
@@ -54,7 +57,8 @@ has-requires-2 c =
     -- what is known once the beginning is passed
     let known : let n = length c.args.context.now in
     (first (begin_tests c.args.image.now c.args.state c.args.board n) ≡ 0)
-    × Offered c.args.image.now c.args.state c.args.board n c.in-Taken.s = if_taken c.begin-entry.ensures c.in-Taken.is in
+    × Offered c.args.image.now c.args.state c.args.board n c.in-Taken.s =
+    if_taken c.begin-entry.ensures c.in-Taken.is in
     small (known).1.entry
 
 pub returns-then-has : goal.returns-then-has
@@ -62,7 +66,8 @@ returns-then-has c =
     -- what is known once the beginning is passed
     let known : let n = length c.args.context.now in
     (first (begin_tests c.args.image.now c.args.state c.args.board n) ≡ 0)
-    × Offered c.args.image.now c.args.state c.args.board n c.in-Taken.s = if_taken c.begin-entry.ensures c.in-Taken.is in
+    × Offered c.args.image.now c.args.state c.args.board n c.in-Taken.s =
+    if_taken c.begin-entry.ensures c.in-Taken.is in
     -- whether the board is a member, as the code found it
     let member : has (engaged c.args.state) c.args.board ≡ c.has.result =
         sym (c.has.ensures ∙ ap (λ g. has g c.args.board) c.engaged-engaged.ensures) in
@@ -80,7 +85,8 @@ returns c =
     -- what is known once the beginning is passed
     let known : let n = length c.args.context.now in
     (first (begin_tests c.args.image.now c.args.state c.args.board n) ≡ 0)
-    × Offered c.args.image.now c.args.state c.args.board n c.in-Taken.s = if_taken c.begin-entry.ensures c.in-Taken.is in
+    × Offered c.args.image.now c.args.state c.args.board n c.in-Taken.s =
+    if_taken c.begin-entry.ensures c.in-Taken.is in
     -- whether the board is a member, as the code found it
     let member : has (engaged c.args.state) c.args.board ≡ c.has.result =
         sym (c.has.ensures ∙ ap (λ g. has g c.args.board) c.engaged-engaged.ensures) in

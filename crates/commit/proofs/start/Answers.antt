@@ -21,28 +21,32 @@ pub overflow_cast-i : goal.overflow_cast-i
 overflow_cast-i c =
     -- what is known once the tests are passed
     let known : (refusal_at c.args.image.now c.args.state (Start c.args.board c.args.context.now) ≡ 0)
-    × Offered c.args.image.now c.args.state c.args.board (length c.args.context.now) c.in-Taken.s = if_taken c.start_entry-entry.ensures c.in-Taken.is in
+    × Offered c.args.image.now c.args.state c.args.board (length c.args.context.now) c.in-Taken.s =
+    if_taken c.start_entry-entry.ensures c.in-Taken.is in
     omega (arith, small (known).1.entry)
 
 pub commit_closure-group-requires : goal.commit_closure-group-requires
 commit_closure-group-requires c =
     -- what is known once the tests are passed
     let known : (refusal_at c.args.image.now c.args.state (Start c.args.board c.args.context.now) ≡ 0)
-    × Offered c.args.image.now c.args.state c.args.board (length c.args.context.now) c.in-Taken.s = if_taken c.start_entry-entry.ensures c.in-Taken.is in
+    × Offered c.args.image.now c.args.state c.args.board (length c.args.context.now) c.in-Taken.s =
+    if_taken c.start_entry-entry.ensures c.in-Taken.is in
     small (known).1.entry
 
 pub start-next-requires : goal.start-next-requires
 start-next-requires c =
     -- what is known once the tests are passed
     let known : (refusal_at c.args.image.now c.args.state (Start c.args.board c.args.context.now) ≡ 0)
-    × Offered c.args.image.now c.args.state c.args.board (length c.args.context.now) c.in-Taken.s = if_taken c.start_entry-entry.ensures c.in-Taken.is in
+    × Offered c.args.image.now c.args.state c.args.board (length c.args.context.now) c.in-Taken.s =
+    if_taken c.start_entry-entry.ensures c.in-Taken.is in
     small (known).1.entry
 
 pub give-requires : goal.give-requires
 give-requires c =
     -- what is known once the tests are passed
     let known : (refusal_at c.args.image.now c.args.state (Start c.args.board c.args.context.now) ≡ 0)
-    × Offered c.args.image.now c.args.state c.args.board (length c.args.context.now) c.in-Taken.s = if_taken c.start_entry-entry.ensures c.in-Taken.is in
+    × Offered c.args.image.now c.args.state c.args.board (length c.args.context.now) c.in-Taken.s =
+    if_taken c.start_entry-entry.ensures c.in-Taken.is in
     let offered = (known).1 in
     let entry = offered.entry in
     let group = started_group c.args.state c.args.board c.start-next.ensures
@@ -54,7 +58,8 @@ unfolding plan
 returns c =
     -- what is known once the tests are passed
     let known : (refusal_at c.args.image.now c.args.state (Start c.args.board c.args.context.now) ≡ 0)
-    × Offered c.args.image.now c.args.state c.args.board (length c.args.context.now) c.in-Taken.s = if_taken c.start_entry-entry.ensures c.in-Taken.is in
+    × Offered c.args.image.now c.args.state c.args.board (length c.args.context.now) c.in-Taken.s =
+    if_taken c.start_entry-entry.ensures c.in-Taken.is in
     let passed = known in
     let done = c.give.ensures _
     (started c.args.state c.args.board c.start-next.ensures c.commit_closure-group.ensures.members) in

@@ -21,7 +21,8 @@ returns-then-engaged-ne0 c =
     -- what is known once the beginning is passed
     let known : let n = length c.args.context.now in
     (first (begin_tests c.args.image.now c.args.state c.args.board n) ≡ 0)
-    × Offered c.args.image.now c.args.state c.args.board n c.in-Taken.s = if_taken c.begin-entry.ensures c.in-Taken.is in
+    × Offered c.args.image.now c.args.state c.args.board n c.in-Taken.s =
+    if_taken c.begin-entry.ensures c.in-Taken.is in
     let number = start_open _ _ _ _ (known).0
     (λ z. omega (arith, c.if-engaged-ne0.true, c.engaged.ensures, z)) in
     refused number (λ z. omega arith)
@@ -31,6 +32,7 @@ returns c =
     -- what is known once the beginning is passed
     let known : let n = length c.args.context.now in
     (first (begin_tests c.args.image.now c.args.state c.args.board n) ≡ 0)
-    × Offered c.args.image.now c.args.state c.args.board n c.in-Taken.s = if_taken c.begin-entry.ensures c.in-Taken.is in
+    × Offered c.args.image.now c.args.state c.args.board n c.in-Taken.s =
+    if_taken c.begin-entry.ensures c.in-Taken.is in
     let told = known in
     passed (start_passes _ _ _ _ told.0 (omega (arith, c.engaged.ensures, c.if-engaged-ne0.false))) told.1

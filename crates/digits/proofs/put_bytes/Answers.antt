@@ -1,7 +1,6 @@
 -- `put_bytes` meets its contract: after x rounds the first x bytes are written.
-use Prim.Native.Nat.{◌-◌}
 use native.Mathlib.Omega.{arith}
-use lib.ListN.{length, take}
+use lib.ListN.{take}
 use lib.Seq.{take_all, length-take-le}
 use Rattle.text.specs.Rows.{bytes_text}
 use Rattle.digits.proofs.Laws.{appends_none, appends_then, appends_length, length_bytes, bytes_more}

@@ -17,12 +17,20 @@ put_digit-c-requires c =
     (omega (arith, length_digit_at 10000 c.args.n, length_digit_at 1000 c.args.n), omega arith)
 
 pub put_digit-d-requires : goal.put_digit-d-requires
-put_digit-d-requires c =
-    (omega (arith, length_digit_at 10000 c.args.n, length_digit_at 1000 c.args.n, length_digit_at 100 c.args.n), omega arith)
+put_digit-d-requires c = (
+  omega (arith, length_digit_at 10000 c.args.n, length_digit_at 1000 c.args.n, length_digit_at 100 c.args.n),
+  omega arith,
+)
 
 pub put-requires-2 : goal.put-requires-2
 put-requires-2 c =
-    omega (arith, length_digit_at 10000 c.args.n, length_digit_at 1000 c.args.n, length_digit_at 100 c.args.n, length_digit_at 10 c.args.n)
+    omega (
+      arith,
+      length_digit_at 10000 c.args.n,
+      length_digit_at 1000 c.args.n,
+      length_digit_at 100 c.args.n,
+      length_digit_at 10 c.args.n,
+    )
 
 pub returns : goal.returns
 unfolding decimal

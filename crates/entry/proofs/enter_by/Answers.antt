@@ -20,13 +20,15 @@ returns-in_default c =
 pub overflow_cast-s : goal.overflow_cast-s
 overflow_cast-s c =
     -- what is known once the header is read
-    let known : (in_order 0 c.args.image.now ≡ true) × Shaped c.args.image.now c.in-InOrder.s = headed c.read_header.ensures c.in-InOrder.is in
+    let known : (in_order 0 c.args.image.now ≡ true) × Shaped c.args.image.now c.in-InOrder.s =
+    headed c.read_header.ensures c.in-InOrder.is in
     omega (arith, (bounded (known).1.allowed_shape).limits.most_boards)
 
 pub returns-then-bad_record : goal.returns-then-bad_record
 returns-then-bad_record c =
     -- what is known once the header is read
-    let known : (in_order 0 c.args.image.now ≡ true) × Shaped c.args.image.now c.in-InOrder.s = headed c.read_header.ensures c.in-InOrder.is in
+    let known : (in_order 0 c.args.image.now ≡ true) × Shaped c.args.image.now c.in-InOrder.s =
+    headed c.read_header.ensures c.in-InOrder.is in
     let h = known in
     let bad = sym c.bad_record.ensures ∙ c.if-bad_record.true in
     refused (entry_twelve _ _ _ h.0 h.1.shape bad) (λ z. omega arith)
@@ -34,13 +36,15 @@ returns-then-bad_record c =
 pub board_of-requires : goal.board_of-requires
 board_of-requires c =
     -- what is known once the header is read
-    let known : (in_order 0 c.args.image.now ≡ true) × Shaped c.args.image.now c.in-InOrder.s = headed c.read_header.ensures c.in-InOrder.is in
+    let known : (in_order 0 c.args.image.now ≡ true) × Shaped c.args.image.now c.in-InOrder.s =
+    headed c.read_header.ensures c.in-InOrder.is in
     (known).1.allowed_shape
 
 pub returns-then-board_of-s : goal.returns-then-board_of-s
 returns-then-board_of-s c =
     -- what is known once the header is read
-    let known : (in_order 0 c.args.image.now ≡ true) × Shaped c.args.image.now c.in-InOrder.s = headed c.read_header.ensures c.in-InOrder.is in
+    let known : (in_order 0 c.args.image.now ≡ true) × Shaped c.args.image.now c.in-InOrder.s =
+    headed c.read_header.ensures c.in-InOrder.is in
     let board-same : board_of (shape_of c.args.image.now) c.args.who ≡ c.board_of.result =
     same_board c.args.who (known).1 c.board_of.ensures in
     -- what is known once header and record are passed: the board is that of the image's shape
@@ -53,7 +57,8 @@ returns-then-board_of-s c =
 pub returns : goal.returns
 returns c =
     -- what is known once the header is read
-    let known : (in_order 0 c.args.image.now ≡ true) × Shaped c.args.image.now c.in-InOrder.s = headed c.read_header.ensures c.in-InOrder.is in
+    let known : (in_order 0 c.args.image.now ≡ true) × Shaped c.args.image.now c.in-InOrder.s =
+    headed c.read_header.ensures c.in-InOrder.is in
     -- what is known once header and record are passed: the board is that of the image's shape
     let recorded : bad_record c.in-InOrder.s.boards
     c.args.state ≡ false = sym c.bad_record.ensures ∙ c.if-bad_record.false in

@@ -24,21 +24,24 @@ pub overflow_cast-board : goal.overflow_cast-board
 overflow_cast-board c =
     -- what is known once the tests are passed
     let known : (first (entry_tests c.args.image.now c.args.state c.args.board) ≡ 0)
-    × EntryPassed c.args.image.now c.args.state c.args.board c.in-Taken.s = if_taken c.enter-entry.ensures c.in-Taken.is in
+    × EntryPassed c.args.image.now c.args.state c.args.board c.in-Taken.s =
+    if_taken c.enter-entry.ensures c.in-Taken.is in
     omega (arith, small (known).1)
 
 pub fault_closure-group-requires : goal.fault_closure-group-requires
 fault_closure-group-requires c =
     -- what is known once the tests are passed
     let known : (first (entry_tests c.args.image.now c.args.state c.args.board) ≡ 0)
-    × EntryPassed c.args.image.now c.args.state c.args.board c.in-Taken.s = if_taken c.enter-entry.ensures c.in-Taken.is in
+    × EntryPassed c.args.image.now c.args.state c.args.board c.in-Taken.s =
+    if_taken c.enter-entry.ensures c.in-Taken.is in
     small (known).1
 
 pub copy_blocks-left-requires : goal.copy_blocks-left-requires
 copy_blocks-left-requires c =
     -- what is known once the tests are passed
     let known : (first (entry_tests c.args.image.now c.args.state c.args.board) ≡ 0)
-    × EntryPassed c.args.image.now c.args.state c.args.board c.in-Taken.s = if_taken c.enter-entry.ensures c.in-Taken.is in
+    × EntryPassed c.args.image.now c.args.state c.args.board c.in-Taken.s =
+    if_taken c.enter-entry.ensures c.in-Taken.is in
     let shaped = (known).1.shaped in
     (shaped.allowed_shape, shaped.long, well_start c.new-whole.ensures)
 
@@ -55,7 +58,9 @@ unfolding refusals bank depends
 returns c =
     -- what is known once the tests are passed
     let known : (first (entry_tests c.args.image.now c.args.state c.args.board) ≡ 0)
-    × EntryPassed c.args.image.now c.args.state c.args.board c.in-Taken.s = if_taken c.enter-entry.ensures c.in-Taken.is in
+    × EntryPassed c.args.image.now c.args.state c.args.board c.in-Taken.s =
+    if_taken c.enter-entry.ensures c.in-Taken.is in
     let passed = known in
-    fault_done c.args.state c.args.board passed.1.shaped.shape passed.0 c.fault_closure-group.ensures.members c.clear-next.ensures
+    fault_done c.args.state c.args.board passed.1.shaped.shape passed.0 c.fault_closure-group.ensures.members
+    c.clear-next.ensures
     c.new-whole.ensures c.copy_blocks-left.ensures c.finish.ensures

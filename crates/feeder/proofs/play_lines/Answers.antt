@@ -16,7 +16,8 @@ loop-buffer-init c = (refl, refl, omega arith, omega arith, c.requires.0, refl, 
 pub returns-in_default : goal.returns-in_default
 returns-in_default c =
     -- a next line is played
-    let going : goes (state_of c.loop-buffer.current c.loop-buffer.area) ≡ true = sym (c.goes_on.ensures c.loop-buffer.area) ∙ c.loop-buffer-test.true in
+    let going : goes (state_of c.loop-buffer.current c.loop-buffer.area) ≡ true =
+    sym (c.goes_on.ensures c.loop-buffer.area) ∙ c.loop-buffer-test.true in
     record {
       output = c.loop-buffer.invariant.6;
       stops = (going, rw c.in_default.is at c.next_line.ensures);
@@ -32,7 +33,8 @@ overflow_sub-out c =
 pub returns-then-out-written-lt-ROOM : goal.returns-then-out-written-lt-ROOM
 returns-then-out-written-lt-ROOM c =
     -- a next line is played
-    let going : goes (state_of c.loop-buffer.current c.loop-buffer.area) ≡ true = sym (c.goes_on.ensures c.loop-buffer.area) ∙ c.loop-buffer-test.true in
+    let going : goes (state_of c.loop-buffer.current c.loop-buffer.area) ≡ true =
+    sym (c.goes_on.ensures c.loop-buffer.area) ∙ c.loop-buffer-test.true in
     let whole = rw c.in-EndsAt.is at c.next_line.ensures in
     record {
       output = c.loop-buffer.invariant.6;
@@ -64,9 +66,11 @@ slice_bounds-step-end c =
 pub step-stepped-requires : goal.step-stepped-requires
 step-stepped-requires c =
     -- a next line is played
-    let going : goes (state_of c.loop-buffer.current c.loop-buffer.area) ≡ true = sym (c.goes_on.ensures c.loop-buffer.area) ∙ c.loop-buffer-test.true in
+    let going : goes (state_of c.loop-buffer.current c.loop-buffer.area) ≡ true =
+    sym (c.goes_on.ensures c.loop-buffer.area) ∙ c.loop-buffer-test.true in
     (
-      record { fits = c.loop-buffer.invariant.4; going = going; whole = omega (arith, c.requires.1, c.loop-buffer.invariant.0) },
+      record { fits = c.loop-buffer.invariant.4; going = going; whole =
+      omega (arith, c.requires.1, c.loop-buffer.invariant.0) },
       omega (arith, c.if-out-written-lt-ROOM.false, c.loop-buffer.invariant.1, c.loop-buffer.invariant.3),
       omega (arith, c.loop-buffer.invariant.5),
     )
@@ -79,7 +83,8 @@ overflow_add-read c =
 pub loop-buffer-smaller : goal.loop-buffer-smaller
 loop-buffer-smaller c =
     -- a next line is played
-    let going : goes (state_of c.loop-buffer.current c.loop-buffer.area) ≡ true = sym (c.goes_on.ensures c.loop-buffer.area) ∙ c.loop-buffer-test.true in
+    let going : goes (state_of c.loop-buffer.current c.loop-buffer.area) ≡ true =
+    sym (c.goes_on.ensures c.loop-buffer.area) ∙ c.loop-buffer-test.true in
     omega (
       arith,
       stepped_more c.loop-buffer.current c.loop-buffer.area c.step-stepped.ensures,
@@ -89,7 +94,8 @@ loop-buffer-smaller c =
 pub loop-buffer-preserved : goal.loop-buffer-preserved
 loop-buffer-preserved c =
     -- a next line is played
-    let going : goes (state_of c.loop-buffer.current c.loop-buffer.area) ≡ true = sym (c.goes_on.ensures c.loop-buffer.area) ∙ c.loop-buffer-test.true in
+    let going : goes (state_of c.loop-buffer.current c.loop-buffer.area) ≡ true =
+    sym (c.goes_on.ensures c.loop-buffer.area) ∙ c.loop-buffer-test.true in
     let whole = rw c.in-EndsAt.is at c.next_line.ensures in
     (
       c.step-stepped.auto.area ∙ c.loop-buffer.invariant.0,

@@ -27,7 +27,8 @@ returns-then-v-gt65535 c =
 
 pub loop-i-preserved : goal.loop-i-preserved
 loop-i-preserved c =
-    let next = number_more c.args.s.now c.loop-i.i (omega arith) c.loop-i.v c.if-c-eq44.false (omega arith) (omega arith) (omega arith) in
+    let next = number_more c.args.s.now c.loop-i.i (omega arith) c.loop-i.v c.if-c-eq44.false (omega arith)
+    (omega arith) (omega arith) in
     let longer = until_more c.args.s.now c.loop-i.i (omega arith) comma c.if-c-eq44.false in
     (omega arith, omega arith, sym next ∙ c.loop-i.invariant.2, omega arith)
 

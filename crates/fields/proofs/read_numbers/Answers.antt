@@ -34,7 +34,8 @@ loop-i-preserved c =
       length-set c.loop-i.values c.loop-i.i _ ∙ c.loop-i.invariant.1,
       ends_next c.loop-i.invariant.2 (omega arith) read.1,
       below_more _ c.loop-i.i
-          (λ j l. c.loop-i.invariant.3 j l ∙ ap Value (sym (get_or-set_other c.loop-i.values c.loop-i.i j c.in-Number.v 0 (λ e. omega arith))))
+          (λ j l. c.loop-i.invariant.3 j l ∙ ap Value
+          (sym (get_or-set_other c.loop-i.values c.loop-i.i j c.in-Number.v 0 (λ e. omega arith))))
           (read.0 ∙ ap Value (sym (get_or-set_same c.loop-i.values c.loop-i.i c.in-Number.v 0 (omega arith)))),
     )
 

@@ -22,7 +22,8 @@ unfolding commit_forecast
 returns-then-engaged-ne0 c =
     -- what is known once the tests are passed
     let known : (first (entry_tests c.args.image.now c.args.state c.args.board) ≡ 0)
-    × EntryPassed c.args.image.now c.args.state c.args.board c.in-Taken.s = if_taken c.enter-entry.ensures c.in-Taken.is in
+    × EntryPassed c.args.image.now c.args.state c.args.board c.in-Taken.s =
+    if_taken c.enter-entry.ensures c.in-Taken.is in
     let number = commit_open c.args.image.now c.args.state c.args.board (known).0
     (λ z. omega (arith, c.if-engaged-ne0.true, c.engaged.ensures, z)) in
     refused_so (commit_tests c.args.image.now c.args.state c.args.board) _ _ (number, λ z. omega arith)
@@ -32,21 +33,24 @@ pub overflow_cast-board : goal.overflow_cast-board
 overflow_cast-board c =
     -- what is known once the tests are passed
     let known : (first (entry_tests c.args.image.now c.args.state c.args.board) ≡ 0)
-    × EntryPassed c.args.image.now c.args.state c.args.board c.in-Taken.s = if_taken c.enter-entry.ensures c.in-Taken.is in
+    × EntryPassed c.args.image.now c.args.state c.args.board c.in-Taken.s =
+    if_taken c.enter-entry.ensures c.in-Taken.is in
     omega (arith, small (known).1)
 
 pub commit_closure-group-requires : goal.commit_closure-group-requires
 commit_closure-group-requires c =
     -- what is known once the tests are passed
     let known : (first (entry_tests c.args.image.now c.args.state c.args.board) ≡ 0)
-    × EntryPassed c.args.image.now c.args.state c.args.board c.in-Taken.s = if_taken c.enter-entry.ensures c.in-Taken.is in
+    × EntryPassed c.args.image.now c.args.state c.args.board c.in-Taken.s =
+    if_taken c.enter-entry.ensures c.in-Taken.is in
     small (known).1
 
 pub commit_cost-stores-requires : goal.commit_cost-stores-requires
 commit_cost-stores-requires c =
     -- what is known once the tests are passed
     let known : (first (entry_tests c.args.image.now c.args.state c.args.board) ≡ 0)
-    × EntryPassed c.args.image.now c.args.state c.args.board c.in-Taken.s = if_taken c.enter-entry.ensures c.in-Taken.is in
+    × EntryPassed c.args.image.now c.args.state c.args.board c.in-Taken.s =
+    if_taken c.enter-entry.ensures c.in-Taken.is in
     let shaped = (known).1.shaped in
     (shaped.allowed_shape, shaped.long)
 
@@ -55,7 +59,8 @@ unfolding depends commit_forecast
 returns c =
     -- what is known once the tests are passed
     let known : (first (entry_tests c.args.image.now c.args.state c.args.board) ≡ 0)
-    × EntryPassed c.args.image.now c.args.state c.args.board c.in-Taken.s = if_taken c.enter-entry.ensures c.in-Taken.is in
+    × EntryPassed c.args.image.now c.args.state c.args.board c.in-Taken.s =
+    if_taken c.enter-entry.ensures c.in-Taken.is in
     let passed = known in
     let none = commit_passes c.args.image.now c.args.state c.args.board passed.0
     (omega (arith, c.if-engaged-ne0.false, c.engaged.ensures)) in

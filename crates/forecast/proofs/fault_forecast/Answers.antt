@@ -20,21 +20,24 @@ pub overflow_cast-board : goal.overflow_cast-board
 overflow_cast-board c =
     -- what is known once the tests are passed
     let known : (first (entry_tests c.args.image.now c.args.state c.args.board) ≡ 0)
-    × EntryPassed c.args.image.now c.args.state c.args.board c.in-Taken.s = if_taken c.enter-entry.ensures c.in-Taken.is in
+    × EntryPassed c.args.image.now c.args.state c.args.board c.in-Taken.s =
+    if_taken c.enter-entry.ensures c.in-Taken.is in
     omega (arith, small (known).1)
 
 pub fault_closure-group-requires : goal.fault_closure-group-requires
 fault_closure-group-requires c =
     -- what is known once the tests are passed
     let known : (first (entry_tests c.args.image.now c.args.state c.args.board) ≡ 0)
-    × EntryPassed c.args.image.now c.args.state c.args.board c.in-Taken.s = if_taken c.enter-entry.ensures c.in-Taken.is in
+    × EntryPassed c.args.image.now c.args.state c.args.board c.in-Taken.s =
+    if_taken c.enter-entry.ensures c.in-Taken.is in
     small (known).1
 
 pub blocks_cost-stores-requires : goal.blocks_cost-stores-requires
 blocks_cost-stores-requires c =
     -- what is known once the tests are passed
     let known : (first (entry_tests c.args.image.now c.args.state c.args.board) ≡ 0)
-    × EntryPassed c.args.image.now c.args.state c.args.board c.in-Taken.s = if_taken c.enter-entry.ensures c.in-Taken.is in
+    × EntryPassed c.args.image.now c.args.state c.args.board c.in-Taken.s =
+    if_taken c.enter-entry.ensures c.in-Taken.is in
     let shaped = (known).1.shaped in
     (shaped.allowed_shape, shaped.long)
 
@@ -43,7 +46,8 @@ unfolding depends fault_forecast
 returns c =
     -- what is known once the tests are passed
     let known : (first (entry_tests c.args.image.now c.args.state c.args.board) ≡ 0)
-    × EntryPassed c.args.image.now c.args.state c.args.board c.in-Taken.s = if_taken c.enter-entry.ensures c.in-Taken.is in
+    × EntryPassed c.args.image.now c.args.state c.args.board c.in-Taken.s =
+    if_taken c.enter-entry.ensures c.in-Taken.is in
     let passed = known in
     taken_so (entry_tests c.args.image.now c.args.state c.args.board) blocks_cost c.args.image.now passed.0
     passed.1.shaped.shape c.fault_closure-group.ensures.members c.blocks_cost-stores.ensures refl

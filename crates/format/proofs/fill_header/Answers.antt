@@ -1,7 +1,5 @@
 -- `fill_header` meets its contract: at i the bytes from 1 to i - 1 are stored.
-use Prim.Native.Nat.{◌-◌}
 use mathlib.Core.Path.{◌≡◌, refl, sym, ap}
-use lib.ListN.{length}
 use native.Mathlib.Omega.{arith}
 use Rattle.boards.specs.Lists.{span}
 use Rattle.protocol.specs.Image.{total}

@@ -1,5 +1,4 @@
 -- `fill_zeros` meets its contract: at i the bytes from 9 to i - 1 are stored.
-use Prim.Native.Nat.{◌-◌}
 use mathlib.Core.Path.{◌≡◌, refl}
 use lib.ListN.{length}
 use native.Mathlib.Omega.{arith}

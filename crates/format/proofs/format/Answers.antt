@@ -1,6 +1,5 @@
 -- `format` meets its contract: refused by the shape, refused by the length, or ended by what is left of the budget.
 use mathlib.Core.Path.{sym, ◌∙◌}
-use Rattle.boards.proofs.Basics.{not_true, not_false}
 use Rattle.store.proofs.Laws.{makes_begun}
 use Rattle.store.proofs.Ends.{left_most}
 use Rattle.format.proofs.Laws.{turned_shape, turned_length, ended}

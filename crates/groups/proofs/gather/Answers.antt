@@ -26,9 +26,16 @@ loop-progress-smaller c =
     -- a pass adds a row at least
     let more : c.loop-progress.progress.count < c.pass-progress.result.count =
     let less =
-    fewer c.loop-progress.progress.added c.loop-progress.progress.members (small).1 (small).0 c.loop-progress.invariant.0.inside
+    fewer c.loop-progress.progress.added c.loop-progress.progress.members (small).1 (small).0
+    c.loop-progress.invariant.0.inside
     c.loop-progress-test.true in
-    omega (arith, less, c.loop-progress.invariant.0.counted, c.pass-progress.ensures.2 ∙ ap (λ g. count 16 (has g)) c.pass-progress.ensures.1) in
+    omega (
+      arith,
+      less,
+      c.loop-progress.invariant.0.counted,
+      c.pass-progress.ensures.2
+          ∙ ap (λ g. count 16 (has g)) c.pass-progress.ensures.1,
+    ) in
     omega (arith, more, c.pass-progress.ensures.2, count_le 16 (has c.pass-progress.result.added))
 
 pub loop-progress-preserved : goal.loop-progress-preserved
@@ -41,9 +48,16 @@ loop-progress-preserved c =
     -- a pass adds a row at least
     let more : c.loop-progress.progress.count < c.pass-progress.result.count =
     let less =
-    fewer c.loop-progress.progress.added c.loop-progress.progress.members (small).1 (small).0 c.loop-progress.invariant.0.inside
+    fewer c.loop-progress.progress.added c.loop-progress.progress.members (small).1 (small).0
+    c.loop-progress.invariant.0.inside
     c.loop-progress-test.true in
-    omega (arith, less, c.loop-progress.invariant.0.counted, c.pass-progress.ensures.2 ∙ ap (λ g. count 16 (has g)) c.pass-progress.ensures.1) in
+    omega (
+      arith,
+      less,
+      c.loop-progress.invariant.0.counted,
+      c.pass-progress.ensures.2
+          ∙ ap (λ g. count 16 (has g)) c.pass-progress.ensures.1,
+    ) in
     let d = followed c.args.rows c.args.back in
     let (members, added, counted) = c.pass-progress.ensures in
     let (n, few, reached) = c.loop-progress.invariant.1 in (
@@ -58,7 +72,8 @@ returns c =
     let (n, few, reached) = c.loop-progress.invariant.1 in
     let whole : c.loop-progress.progress.added ≡ c.loop-progress.progress.members = c.loop-progress-test.false in
     let most = count_le 16 (has c.loop-progress.progress.added) in (
-      found_early d c.args.i n c.loop-progress.progress.members (omega (arith, c.loop-progress.invariant.0.counted, most)) reached
+      found_early d c.args.i n c.loop-progress.progress.members
+          (omega (arith, c.loop-progress.invariant.0.counted, most)) reached
           (sym (c.loop-progress.invariant.0.covered ∙ ap (with_rows d c.loop-progress.progress.members) whole)),
       c.loop-progress.invariant.0.counted ∙ ap (λ g. count 16 (has g)) whole,
     )

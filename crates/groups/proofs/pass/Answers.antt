@@ -23,7 +23,8 @@ loop-left-init c =
 pub add-progress-requires : goal.add-progress-requires
 add-progress-requires c =
     -- the board whose turn it is: a member when the pass began, whose row was not added
-    let next-board : (has c.args.before.members c.some_board-a.result ≡ true) × (has c.loop-left.progress.added c.some_board-a.result ≡ false) =
+    let next-board : (has c.args.before.members c.some_board-a.result ≡ true)
+    × (has c.loop-left.progress.added c.some_board-a.result ≡ false) =
     let (below, left) = c.some_board-a.ensures in
     left_board c.loop-left.progress.added c.args.before.members c.some_board-a.result below
     (ap (λ g. has g c.some_board-a.result) (sym c.loop-left.invariant.2) ∙ left) in
@@ -32,7 +33,8 @@ add-progress-requires c =
 pub loop-left-smaller : goal.loop-left-smaller
 loop-left-smaller c =
     -- the board whose turn it is: a member when the pass began, whose row was not added
-    let next-board : (has c.args.before.members c.some_board-a.result ≡ true) × (has c.loop-left.progress.added c.some_board-a.result ≡ false) =
+    let next-board : (has c.args.before.members c.some_board-a.result ≡ true)
+    × (has c.loop-left.progress.added c.some_board-a.result ≡ false) =
     let (below, left) = c.some_board-a.ensures in
     left_board c.loop-left.progress.added c.args.before.members c.some_board-a.result below
     (ap (λ g. has g c.some_board-a.result) (sym c.loop-left.invariant.2) ∙ left) in
@@ -46,7 +48,8 @@ loop-left-smaller c =
 pub loop-left-preserved : goal.loop-left-preserved
 loop-left-preserved c =
     -- the board whose turn it is: a member when the pass began, whose row was not added
-    let next-board : (has c.args.before.members c.some_board-a.result ≡ true) × (has c.loop-left.progress.added c.some_board-a.result ≡ false) =
+    let next-board : (has c.args.before.members c.some_board-a.result ≡ true)
+    × (has c.loop-left.progress.added c.some_board-a.result ≡ false) =
     let (below, left) = c.some_board-a.ensures in
     left_board c.loop-left.progress.added c.args.before.members c.some_board-a.result below
     (ap (λ g. has g c.some_board-a.result) (sym c.loop-left.invariant.2) ∙ left) in
@@ -66,7 +69,8 @@ returns c =
     let added : Fits w16 c.args.before.added = search rules in
     (members.fits, added.fits) in
     let whole : c.loop-left.progress.added ≡ c.args.before.members =
-    none_left c.loop-left.progress.added c.args.before.members c.loop-left.invariant.1 (small).0 c.loop-left.invariant.0.inside
+    none_left c.loop-left.progress.added c.args.before.members c.loop-left.invariant.1 (small).0
+    c.loop-left.invariant.0.inside
     (sym c.loop-left-test.false ∙ c.loop-left.invariant.2) in (
       c.loop-left.invariant.0.covered ∙ ap (with_rows (followed c.args.rows c.args.back) c.args.before.members) whole,
       whole,

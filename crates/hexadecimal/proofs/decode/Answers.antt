@@ -24,7 +24,8 @@ loop-i-preserved c =
     let byte : 16 * c.digit-high.result + c.digit-low.result ≡ get_or (decoded c.args.s.now) c.loop-i.i 0 =
     omega (arith, pair_at c.args.s.now c.loop-i.i c.requires.0 (omega arith)) in
     let inside : c.loop-i.i < length (decoded c.args.s.now) = omega (arith, length_decoded c.args.s.now) in
-    let next = filled_more (decoded c.args.s.now) c.args.out.now c.loop-i.i inside (omega arith) c.loop-i.invariant.1 byte in
+    let next = filled_more (decoded c.args.s.now) c.args.out.now c.loop-i.i inside (omega arith)
+    c.loop-i.invariant.1 byte in
     (omega arith, next, length-set c.loop-i.out c.loop-i.i _ ∙ c.loop-i.invariant.2)
 
 pub returns : goal.returns

@@ -10,8 +10,10 @@ overflow_mul-cells c = omega (arith, bounded c.requires.0)
 
 pub same_bytes-requires : goal.same_bytes-requires
 unfolding size
-same_bytes-requires c =
-    (omega (arith, area_ends _ Recovery c.recovery_at-bank.ensures c.requires.1), omega (arith, area_ends _ Recovery c.recovery_at-bank.ensures c.requires.2))
+same_bytes-requires c = (
+  omega (arith, area_ends _ Recovery c.recovery_at-bank.ensures c.requires.1),
+  omega (arith, area_ends _ Recovery c.recovery_at-bank.ensures c.requires.2),
+)
 
 pub returns-then-not-same_bytes : goal.returns-then-not-same_bytes
 returns-then-not-same_bytes c =
@@ -22,8 +24,10 @@ overflow_mul-contexts c = omega (arith, bounded c.requires.0)
 
 pub same_bytes-requires-2 : goal.same_bytes-requires-2
 unfolding size
-same_bytes-requires-2 c =
-    (omega (arith, area_ends _ Checkpoint c.checkpoint_at-checkpoint.ensures c.requires.1), omega (arith, area_ends _ Checkpoint c.checkpoint_at-checkpoint.ensures c.requires.2))
+same_bytes-requires-2 c = (
+  omega (arith, area_ends _ Checkpoint c.checkpoint_at-checkpoint.ensures c.requires.1),
+  omega (arith, area_ends _ Checkpoint c.checkpoint_at-checkpoint.ensures c.requires.2),
+)
 
 pub returns : goal.returns
 returns c =

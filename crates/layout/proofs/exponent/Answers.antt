@@ -38,7 +38,8 @@ returns-in-64 c = sym (ap exponent c.in-64.is)
 pub returns-in_default : goal.returns-in_default
 unfolding exponent exponent_from
 returns-in_default c =
-    let other : (k : ℕ) → (c.args.size ≡ k → ⊥) → eqb k c.args.size ≡ false = λ k h. ne_eqb k c.args.size (λ e. h (sym e)) in
+    let other : (k : ℕ) → (c.args.size ≡ k → ⊥) → eqb k c.args.size ≡ false =
+    λ k h. ne_eqb k c.args.size (λ e. h (sym e)) in
     rw (
       other 64 c.in_default.in_default-own.rest.1,
       other 32 c.in_default.in_default-own.rest.0.1,

@@ -17,7 +17,8 @@ loop-i-init c = (omega arith, λ j l. absurd (omega arith))
 
 pub returns-then-own-ne0 : goal.returns-then-own-ne0
 returns-then-own-ne0 c =
-    let bounded : Bounded 16 (links_of c.args.rows) = rows_bounded (record { long = search rules; small = λ a. search rules }) in
+    let bounded : Bounded 16 (links_of c.args.rows) =
+    rows_bounded (record { long = search rules; small = λ a. search rules }) in
     let b = bounded in
     let (ready, own) =
     answered_ready b c.args.left c.loop-i.i _ c.ready_component-own.ensures c.if-own-ne0.true in
@@ -27,7 +28,8 @@ returns-then-own-ne0 c =
 
 pub loop-i-preserved : goal.loop-i-preserved
 loop-i-preserved c =
-    let bounded : Bounded 16 (links_of c.args.rows) = rows_bounded (record { long = search rules; small = λ a. search rules }) in
+    let bounded : Bounded 16 (links_of c.args.rows) =
+    rows_bounded (record { long = search rules; small = λ a. search rules }) in
     let none =
     answered_none (bounded) c.args.left c.loop-i.i _ (omega (arith, c.loop-i-test.true))
     c.ready_component-own.ensures c.if-own-ne0.false in (
@@ -39,6 +41,7 @@ loop-i-preserved c =
 
 pub returns : goal.returns
 returns c =
-    let bounded : Bounded 16 (links_of c.args.rows) = rows_bounded (record { long = search rules; small = λ a. search rules }) in
+    let bounded : Bounded 16 (links_of c.args.rows) =
+    rows_bounded (record { long = search rules; small = λ a. search rules }) in
     absurd (one_ready (bounded) c.args.left (omega arith) c.requires.0 c.requires.1
     (λ j k. c.loop-i.invariant.1 j (omega arith)))

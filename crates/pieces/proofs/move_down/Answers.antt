@@ -11,7 +11,8 @@ loop-i-init c = (omega arith, refl, refl, refl)
 
 pub loop-i-preserved : goal.loop-i-preserved
 loop-i-preserved c =
-    let more = moved_more c.args.buffer.now c.loop-i.buffer c.args.from c.loop-i.i (omega arith) c.loop-i.invariant.1 c.loop-i.invariant.2 c.loop-i.invariant.3 in
+    let more = moved_more c.args.buffer.now c.loop-i.buffer c.args.from c.loop-i.i (omega arith)
+    c.loop-i.invariant.1 c.loop-i.invariant.2 c.loop-i.invariant.3 in
     (omega arith, length-set c.loop-i.buffer c.loop-i.i _ ∙ c.loop-i.invariant.1, more.0, more.1)
 
 pub returns : goal.returns

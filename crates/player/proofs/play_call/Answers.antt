@@ -9,7 +9,9 @@ use Rattle.player.proofs.play_call.Goals as goal
 pub returns : goal.returns
 returns c buffer =
     let request = request_of c.args.letter c.args.board c.args.cell c.args.bytes.now in
-    called request c.args.p.k c.args.p.state c.args.area.now c.args.p.length (omega (arith, c.requires.whole, c.requires.fits))
+    called request c.args.p.k c.args.p.state c.args.area.now c.args.p.length
+    (omega (arith, c.requires.whole, c.requires.fits))
     c.store_call-reply.ensures c.args.letter
-    (quiet c.args.letter c.args.board c.args.cell c.args.bytes.now c.args.p.k (take c.args.p.length c.args.area.now) c.args.p.state)
+    (quiet c.args.letter c.args.board c.args.cell c.args.bytes.now c.args.p.k (take c.args.p.length c.args.area.now)
+    c.args.p.state)
     (c.end_turn.ensures buffer)

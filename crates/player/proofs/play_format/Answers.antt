@@ -13,7 +13,8 @@ unfolding play
 returns-then-not-allowed c buffer =
     rw (sym c.allowed.ensures ∙ c.if-not-allowed.true)
     (formatted c.args.s (take c.args.p.length c.args.area.now) c.args.p.k c.args.p.state
-    (formatted_lent c.args.s c.args.area.now c.args.p.length c.args.p.k c.args.p.state (omega (arith, c.requires.whole, c.requires.fits))
+    (formatted_lent c.args.s c.args.area.now c.args.p.length c.args.p.k c.args.p.state
+    (omega (arith, c.requires.whole, c.requires.fits))
     c.format-reply.ensures)
     (c.end_turn.ensures buffer))
 

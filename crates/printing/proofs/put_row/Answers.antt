@@ -11,7 +11,8 @@ put_middle-b-requires c =
 pub put_tail-requires : goal.put_tail-requires
 put_tail-requires c =
     omega
-    (arith, length_head c.args.number c.args.letter c.args.answer.status, length_middle c.args.answer.decided c.args.answer.group)
+    (arith, length_head c.args.number c.args.letter c.args.answer.status,
+    length_middle c.args.answer.decided c.args.answer.group)
 
 pub returns : goal.returns
 returns c =

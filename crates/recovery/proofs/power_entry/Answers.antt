@@ -17,13 +17,15 @@ returns-in_default c =
 pub bad_tags-requires : goal.bad_tags-requires
 bad_tags-requires c =
     -- what is known once the header is read
-    let known : (in_order 1 c.args.image.now ≡ true) × Shaped c.args.image.now c.in-InOrder.s = headed c.read_header.ensures c.in-InOrder.is in
+    let known : (in_order 1 c.args.image.now ≡ true) × Shaped c.args.image.now c.in-InOrder.s =
+    headed c.read_header.ensures c.in-InOrder.is in
     let shaped = (known).1 in (shaped.allowed_shape, shaped.long)
 
 pub returns-then-bad_tags : goal.returns-then-bad_tags
 returns-then-bad_tags c =
     -- what is known once the header is read
-    let known : (in_order 1 c.args.image.now ≡ true) × Shaped c.args.image.now c.in-InOrder.s = headed c.read_header.ensures c.in-InOrder.is in
+    let known : (in_order 1 c.args.image.now ≡ true) × Shaped c.args.image.now c.in-InOrder.s =
+    headed c.read_header.ensures c.in-InOrder.is in
     let h = known in
     let tags = sym c.if-bad_tags.true ∙ c.bad_tags.ensures in
     refused (by_tests _ h.0 h.1.shape tags refl) (λ z. omega arith)
@@ -31,13 +33,15 @@ returns-then-bad_tags c =
 pub bad_decision-requires : goal.bad_decision-requires
 bad_decision-requires c =
     -- what is known once the header is read
-    let known : (in_order 1 c.args.image.now ≡ true) × Shaped c.args.image.now c.in-InOrder.s = headed c.read_header.ensures c.in-InOrder.is in
+    let known : (in_order 1 c.args.image.now ≡ true) × Shaped c.args.image.now c.in-InOrder.s =
+    headed c.read_header.ensures c.in-InOrder.is in
     let shaped = (known).1 in (shaped.allowed_shape, shaped.long)
 
 pub returns-then-bad_decision : goal.returns-then-bad_decision
 returns-then-bad_decision c =
     -- what is known once the header is read
-    let known : (in_order 1 c.args.image.now ≡ true) × Shaped c.args.image.now c.in-InOrder.s = headed c.read_header.ensures c.in-InOrder.is in
+    let known : (in_order 1 c.args.image.now ≡ true) × Shaped c.args.image.now c.in-InOrder.s =
+    headed c.read_header.ensures c.in-InOrder.is in
     let h = known in
     let tags = sym c.if-bad_tags.false ∙ c.bad_tags.ensures in
     let decision = sym c.if-bad_decision.true ∙ c.bad_decision.ensures in
@@ -46,7 +50,8 @@ returns-then-bad_decision c =
 pub returns : goal.returns
 returns c =
     -- what is known once the header is read
-    let known : (in_order 1 c.args.image.now ≡ true) × Shaped c.args.image.now c.in-InOrder.s = headed c.read_header.ensures c.in-InOrder.is in
+    let known : (in_order 1 c.args.image.now ≡ true) × Shaped c.args.image.now c.in-InOrder.s =
+    headed c.read_header.ensures c.in-InOrder.is in
     let h = known in
     let tags = sym c.if-bad_tags.false ∙ c.bad_tags.ensures in
     let decision = sym c.if-bad_decision.false ∙ c.bad_decision.ensures in

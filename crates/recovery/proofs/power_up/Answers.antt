@@ -24,7 +24,8 @@ returns-in_default c =
 pub complete_first-first-requires : goal.complete_first-first-requires
 complete_first-first-requires c =
     -- what is known once the tests are passed
-    let known : (first (power_tests c.args.image.now (shape_of c.args.image.now) (view (shape_of c.args.image.now) c.args.image.now)) ≡ 0)
+    let known : (first (power_tests c.args.image.now (shape_of c.args.image.now)
+    (view (shape_of c.args.image.now) c.args.image.now)) ≡ 0)
     × Recoverable c.args.image.now c.in-Taken.s = if_taken c.power_entry-entry.ensures c.in-Taken.is in
     let shaped = (known).1.shaped in
     (shaped.allowed_shape, shaped.long, well_start c.new-whole.ensures)
@@ -32,10 +33,12 @@ complete_first-first-requires c =
 pub copy_blocks-done-requires : goal.copy_blocks-done-requires
 copy_blocks-done-requires c =
     -- what is known once the tests are passed
-    let known : (first (power_tests c.args.image.now (shape_of c.args.image.now) (view (shape_of c.args.image.now) c.args.image.now)) ≡ 0)
+    let known : (first (power_tests c.args.image.now (shape_of c.args.image.now)
+    (view (shape_of c.args.image.now) c.args.image.now)) ≡ 0)
     × Recoverable c.args.image.now c.in-Taken.s = if_taken c.power_entry-entry.ensures c.in-Taken.is in
     let shaped = (known).1.shaped in
-    (shaped.allowed_shape, puts_length c.complete_first-first.ensures ∙ shaped.long, puts_well c.complete_first-first.ensures (well_start c.new-whole.ensures))
+    (shaped.allowed_shape, puts_length c.complete_first-first.ensures ∙ shaped.long,
+    puts_well c.complete_first-first.ensures (well_start c.new-whole.ensures))
 
 pub finish-requires : goal.finish-requires
 finish-requires c =
@@ -46,7 +49,8 @@ pub returns : goal.returns
 unfolding refusals bank
 returns c =
     -- what is known once the tests are passed
-    let known : (first (power_tests c.args.image.now (shape_of c.args.image.now) (view (shape_of c.args.image.now) c.args.image.now)) ≡ 0)
+    let known : (first (power_tests c.args.image.now (shape_of c.args.image.now)
+    (view (shape_of c.args.image.now) c.args.image.now)) ≡ 0)
     × Recoverable c.args.image.now c.in-Taken.s = if_taken c.power_entry-entry.ensures c.in-Taken.is in
     let passed = known in
     λ state. power_done state passed.1 passed.0 c.fresh-next.ensures c.new-whole.ensures

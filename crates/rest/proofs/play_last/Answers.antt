@@ -13,4 +13,5 @@ close-requires c =
 
 pub returns : goal.returns
 returns c =
-    (omega (arith, c.close.ensures.room, appends_length c.close.ensures), c.last_step-stepped.ensures.output ∙ sym (take_x c.close.ensures))
+    (omega (arith, c.close.ensures.room, appends_length c.close.ensures), c.last_step-stepped.ensures.output
+    ∙ sym (take_x c.close.ensures))

@@ -20,21 +20,24 @@ pub overflow_cast-i : goal.overflow_cast-i
 overflow_cast-i c =
     -- what is known once the tests are passed
     let known : (refusal_at c.args.image.now c.args.state (Acknowledge c.args.board c.args.context.now) ≡ 0)
-    × Offered c.args.image.now c.args.state c.args.board (length c.args.context.now) c.in-Taken.s = if_taken c.acknowledge_entry-entry.ensures c.in-Taken.is in
+    × Offered c.args.image.now c.args.state c.args.board (length c.args.context.now) c.in-Taken.s =
+    if_taken c.acknowledge_entry-entry.ensures c.in-Taken.is in
     omega (arith, small (known).1.entry)
 
 pub acknowledge-next-requires : goal.acknowledge-next-requires
 acknowledge-next-requires c =
     -- what is known once the tests are passed
     let known : (refusal_at c.args.image.now c.args.state (Acknowledge c.args.board c.args.context.now) ≡ 0)
-    × Offered c.args.image.now c.args.state c.args.board (length c.args.context.now) c.in-Taken.s = if_taken c.acknowledge_entry-entry.ensures c.in-Taken.is in
+    × Offered c.args.image.now c.args.state c.args.board (length c.args.context.now) c.in-Taken.s =
+    if_taken c.acknowledge_entry-entry.ensures c.in-Taken.is in
     small (known).1.entry
 
 pub if_all_acknowledged-requires : goal.if_all_acknowledged-requires
 if_all_acknowledged-requires c =
     -- what is known once the tests are passed
     let known : (refusal_at c.args.image.now c.args.state (Acknowledge c.args.board c.args.context.now) ≡ 0)
-    × Offered c.args.image.now c.args.state c.args.board (length c.args.context.now) c.in-Taken.s = if_taken c.acknowledge_entry-entry.ensures c.in-Taken.is in
+    × Offered c.args.image.now c.args.state c.args.board (length c.args.context.now) c.in-Taken.s =
+    if_taken c.acknowledge_entry-entry.ensures c.in-Taken.is in
     let shaped = (known).1.entry.shaped in
     (shaped.allowed_shape, shaped.long)
 
@@ -42,7 +45,8 @@ pub returns : goal.returns
 returns c =
     -- what is known once the tests are passed
     let known : (refusal_at c.args.image.now c.args.state (Acknowledge c.args.board c.args.context.now) ≡ 0)
-    × Offered c.args.image.now c.args.state c.args.board (length c.args.context.now) c.in-Taken.s = if_taken c.acknowledge_entry-entry.ensures c.in-Taken.is in
+    × Offered c.args.image.now c.args.state c.args.board (length c.args.context.now) c.in-Taken.s =
+    if_taken c.acknowledge_entry-entry.ensures c.in-Taken.is in
     let passed = known in
     c.if_all_acknowledged.ensures
     ∙ acknowledged_decides c.args.image.now c.args.state c.args.k (acknowledge_gives _ _ _ _ passed.0)

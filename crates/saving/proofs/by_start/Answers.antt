@@ -21,28 +21,32 @@ pub overflow_cast-i : goal.overflow_cast-i
 overflow_cast-i c =
     -- what is known once the tests are passed
     let known : (refusal_at c.args.image.now c.args.state (Start c.args.board c.args.context.now) ≡ 0)
-    × Offered c.args.image.now c.args.state c.args.board (length c.args.context.now) c.in-Taken.s = if_taken c.start_entry-entry.ensures c.in-Taken.is in
+    × Offered c.args.image.now c.args.state c.args.board (length c.args.context.now) c.in-Taken.s =
+    if_taken c.start_entry-entry.ensures c.in-Taken.is in
     omega (arith, small (known).1.entry)
 
 pub commit_closure-group-requires : goal.commit_closure-group-requires
 commit_closure-group-requires c =
     -- what is known once the tests are passed
     let known : (refusal_at c.args.image.now c.args.state (Start c.args.board c.args.context.now) ≡ 0)
-    × Offered c.args.image.now c.args.state c.args.board (length c.args.context.now) c.in-Taken.s = if_taken c.start_entry-entry.ensures c.in-Taken.is in
+    × Offered c.args.image.now c.args.state c.args.board (length c.args.context.now) c.in-Taken.s =
+    if_taken c.start_entry-entry.ensures c.in-Taken.is in
     small (known).1.entry
 
 pub start-next-requires : goal.start-next-requires
 start-next-requires c =
     -- what is known once the tests are passed
     let known : (refusal_at c.args.image.now c.args.state (Start c.args.board c.args.context.now) ≡ 0)
-    × Offered c.args.image.now c.args.state c.args.board (length c.args.context.now) c.in-Taken.s = if_taken c.start_entry-entry.ensures c.in-Taken.is in
+    × Offered c.args.image.now c.args.state c.args.board (length c.args.context.now) c.in-Taken.s =
+    if_taken c.start_entry-entry.ensures c.in-Taken.is in
     small (known).1.entry
 
 pub if_all_acknowledged-requires : goal.if_all_acknowledged-requires
 if_all_acknowledged-requires c =
     -- what is known once the tests are passed
     let known : (refusal_at c.args.image.now c.args.state (Start c.args.board c.args.context.now) ≡ 0)
-    × Offered c.args.image.now c.args.state c.args.board (length c.args.context.now) c.in-Taken.s = if_taken c.start_entry-entry.ensures c.in-Taken.is in
+    × Offered c.args.image.now c.args.state c.args.board (length c.args.context.now) c.in-Taken.s =
+    if_taken c.start_entry-entry.ensures c.in-Taken.is in
     let shaped = (known).1.entry.shaped in
     (shaped.allowed_shape, shaped.long)
 
@@ -50,7 +54,8 @@ pub returns : goal.returns
 returns c =
     -- what is known once the tests are passed
     let known : (refusal_at c.args.image.now c.args.state (Start c.args.board c.args.context.now) ≡ 0)
-    × Offered c.args.image.now c.args.state c.args.board (length c.args.context.now) c.in-Taken.s = if_taken c.start_entry-entry.ensures c.in-Taken.is in
+    × Offered c.args.image.now c.args.state c.args.board (length c.args.context.now) c.in-Taken.s =
+    if_taken c.start_entry-entry.ensures c.in-Taken.is in
     let passed = known in
     c.if_all_acknowledged.ensures
     ∙ acknowledged_decides c.args.image.now c.args.state c.args.k (start_gives _ _ _ _ passed.0)

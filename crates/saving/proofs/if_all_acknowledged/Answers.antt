@@ -19,4 +19,5 @@ returns-then-k-s c = too_short _ _ _ _ _ c.if-k-s.true
 pub returns : goal.returns
 returns c =
     ap Commit c.saved-amounts.ensures
-    ∙ rw c.commit_of-open.ensures (all_of_them _ _ _ _ _ (rw c.commit_of-open.ensures at c.if-open-g.false) (omega (arith, c.if-k-s.false)))
+    ∙ rw c.commit_of-open.ensures (all_of_them _ _ _ _ _ (rw c.commit_of-open.ensures at c.if-open-g.false)
+    (omega (arith, c.if-k-s.false)))
