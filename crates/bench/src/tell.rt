@@ -78,12 +78,10 @@ pub fn bytes_line(rt: &impl Print, before: &[u8], s: &[u8]) {
 }
 
 fn untouched(s: &[u8]) -> bool {
-    let mut i = 0;
-    while i < s.len() {
-        if s[i] != FILL {
+    for byte in s {
+        if *byte != FILL {
             return false;
         }
-        i += 1;
     }
     true
 }
