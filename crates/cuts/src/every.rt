@@ -105,8 +105,7 @@ fn every_power_up(area: &mut [u8], n: usize) -> Tally
         after: 0,
         neither: 0,
     };
-    let mut k = 0;
-    while k < 1000 {
+    for k in 0..1000 {
         copy(area, LEFT, 0, n);
         let done = power_up_twice(&mut area[0..n], k);
         let as_before = recovered(area, BEFORE, n);
@@ -115,7 +114,6 @@ fn every_power_up(area: &mut [u8], n: usize) -> Tally
         if done {
             return t;
         }
-        k += 1;
     }
     t
 }
@@ -163,12 +161,10 @@ fn cut_on(rt: &impl Print, area: &mut [u8], n: usize, state: Record, r: Request,
     requires { (144000 ≤ length area.old) × (n ≤ 36000) }
 {
     copy(area, BEFORE, 0, n);
-    let mut k = 0;
-    while k < 1000 {
+    for k in 0..1000 {
         if !one_cut(rt, area, n, state, r, k, shown) {
             return;
         }
-        k += 1;
     }
 }
 
