@@ -13,41 +13,49 @@ pub fn flag(yes: bool) -> u64 {
     if yes { 1 } else { 0 }
 }
 
-pub fn number(n: u64) {
-    io::write_all(1, b" ");
-    io::print_decimal(1, n);
+// Bytes as they are. That they could not be written is told by the output alone.
+pub fn put(rt: &impl Print, s: &[u8]) {
+    let _ = rt.write_all(s);
+}
+
+pub fn number(rt: &impl Print, n: u64) {
+    let _ = print!(rt; " {n}");
+}
+
+// A mask of boards, as four hexadecimal digits.
+pub fn mask(rt: &impl Print, boards: u16) {
+    let _ = print!(rt; " {boards:04x}");
 }
 
 // Status, decided, group, stores.
-pub fn answer(a: Answer) {
-    io::write_all(1, b" :");
-    number(a.status as u64);
-    number(flag(a.decided));
-    io::write_all(1, b" ");
-    io::print_hex(1, a.group as u64, 4);
-    number(a.stores as u64);
+pub fn answer(rt: &impl Print, a: Answer) {
+    put(rt, b" :");
+    number(rt, a.status as u64);
+    number(rt, flag(a.decided));
+    mask(rt, a.group);
+    number(rt, a.stores as u64);
 }
 
-fn record(next: Record, before: Record) {
+fn record(rt: &impl Print, next: Record, before: Record) {
     if same_record(next, before) {
-        io::write_all(1, b" record same,");
+        put(rt, b" record same,");
         return;
     }
     if !next.on {
-        io::write_all(1, b" record off,");
+        put(rt, b" record off,");
         return;
     }
-    io::write_all(1, b" record changed,");
+    put(rt, b" record changed,");
 }
 
 // Whether image and record are as they were.
-pub fn changes(image: &[u8], before: &[u8], next: Record, old: Record) {
-    if check::same(image, before) {
-        io::write_all(1, b" image same,");
+pub fn changes(rt: &impl Print, image: &[u8], before: &[u8], next: Record, old: Record) {
+    if image == before {
+        put(rt, b" image same,");
     } else {
-        io::write_all(1, b" image changed,");
+        put(rt, b" image changed,");
     }
-    record(next, old)
+    record(rt, next, old)
 }
 
 pub fn wide(x: u8) -> usize
@@ -56,44 +64,40 @@ pub fn wide(x: u8) -> usize
     x as usize
 }
 
-pub fn bytes(s: &[u8]) {
-    let mut i = 0;
-    while i < s.len() {
-        io::print_hex(1, wide(s[i]) as u64, 2);
-        i += 1;
+pub fn bytes(rt: &impl Print, s: &[u8]) {
+    for byte in s {
+        let _ = print!(rt; "{byte:02x}");
     }
 }
 
 // The bytes behind what stands before them, to the end of the line.
-pub fn bytes_line(before: &[u8], s: &[u8]) {
-    io::write_all(1, before);
-    bytes(s);
-    io::write_all(1, b"\n");
+pub fn bytes_line(rt: &impl Print, before: &[u8], s: &[u8]) {
+    put(rt, before);
+    bytes(rt, s);
+    put(rt, b"\n");
 }
 
 fn untouched(s: &[u8]) -> bool {
-    let mut i = 0;
-    while i < s.len() {
-        if s[i] != FILL {
+    for byte in s {
+        if *byte != FILL {
             return false;
         }
-        i += 1;
     }
     true
 }
 
 // The first n bytes, and whether all others are as they were.
-pub fn buffer(s: &[u8], n: usize) {
+pub fn buffer(rt: &impl Print, s: &[u8], n: usize) {
     if untouched(s) {
-        io::write_all(1, b" buffer same\n");
+        put(rt, b" buffer same\n");
         return;
     }
     let end = at_most(n, s.len());
-    io::write_all(1, b" buffer ");
-    bytes(&s[0..end]);
+    put(rt, b" buffer ");
+    bytes(rt, &s[0..end]);
     if untouched(&s[end..]) {
-        io::write_all(1, b" and the rest same\n");
+        put(rt, b" and the rest same\n");
         return;
     }
-    io::write_all(1, b" and the rest changed\n");
+    put(rt, b" and the rest changed\n");
 }

@@ -25,7 +25,7 @@ pub struct Settings {
 }
 
 // A call, its answer, and what changed.
-fn call_line(area: &mut [u8], n: usize, r: Request, old: Record) -> Record
+fn call_line(rt: &impl Print, area: &mut [u8], n: usize, r: Request, old: Record) -> Record
     requires { (144000 ≤ length area.old) × (n ≤ 36000) }
 {
     copy(area, 0, BEFORE, PART);
@@ -33,80 +33,78 @@ fn call_line(area: &mut [u8], n: usize, r: Request, old: Record) -> Record
     let reply = call(&mut area[0..n], old, r, &mut buffer);
     let answer = reply.answer;
     let next = reply.next;
-    tell::answer(answer);
-    tell::changes(&area[0..PART], &area[BEFORE..OTHER], next, old);
-    tell::buffer(&buffer, r.c);
+    tell::answer(rt, answer);
+    tell::changes(rt, &area[0..PART], &area[BEFORE..OTHER], next, old);
+    tell::buffer(rt, &buffer, r.c);
     next
 }
 
-fn context_line(image: &[u8], board: usize) {
+fn context_line(rt: &impl Print, image: &[u8], board: usize) {
     let mut status = 255u8;
     let part = inspect::context(image, board, &mut status);
-    io::write_all(1, b" :");
-    tell::number(status as u64);
-    tell::bytes_line(b" ", part);
+    tell::put(rt, b" :");
+    tell::number(rt, status as u64);
+    tell::bytes_line(rt, b" ", part);
 }
 
-fn same_line(image: &[u8], other: &[u8]) {
+fn same_line(rt: &impl Print, image: &[u8], other: &[u8]) {
     let answer = inspect::same(image, other);
-    io::write_all(1, b" :");
-    tell::number(answer.status as u64);
-    tell::number(tell::flag(answer.same));
-    io::write_all(1, b"\n");
+    tell::put(rt, b" :");
+    tell::number(rt, answer.status as u64);
+    tell::number(rt, tell::flag(answer.same));
+    tell::put(rt, b"\n");
 }
 
 // A forecast: status, group, stores.
-fn forecast_line(image: &[u8], state: Record, r: Request) {
+fn forecast_line(rt: &impl Print, image: &[u8], state: Record, r: Request) {
     let f = if r.letter == letters::COMMIT_FORECAST {
         forecast::commit_forecast(image, state, r.a)
     } else {
         forecast::fault_forecast(image, state, r.a)
     };
-    io::write_all(1, b" :");
-    tell::number(f.status as u64);
-    io::write_all(1, b" ");
-    io::print_hex(1, f.group as u64, 4);
-    tell::number(f.stores as u64);
-    io::write_all(1, b"\n");
+    tell::put(rt, b" :");
+    tell::number(rt, f.status as u64);
+    tell::mask(rt, f.group);
+    tell::number(rt, f.stores as u64);
+    tell::put(rt, b"\n");
 }
 
-fn masks_line(masks: [u16; 16]) {
+fn masks_line(rt: &impl Print, masks: [u16; 16]) {
     for x in 0..16 {
         let mask = masks[x];
-        io::write_all(1, b" ");
-        io::print_hex(1, mask as u64, 4);
+        tell::mask(rt, mask);
     }
-    io::write_all(1, b"\n");
+    tell::put(rt, b"\n");
 }
 
 // The order: status, count, all masks that were lent.
-fn order_line(image: &[u8], state: Record) {
+fn order_line(rt: &impl Print, image: &[u8], state: Record) {
     let mut masks = [61166u16; 16];
     let answer = order::order(image, state, &mut masks);
-    io::write_all(1, b" :");
-    tell::number(answer.status as u64);
-    tell::number(answer.count as u64);
-    masks_line(masks);
+    tell::put(rt, b" :");
+    tell::number(rt, answer.status as u64);
+    tell::number(rt, answer.count as u64);
+    masks_line(rt, masks);
 }
 
 // A line that is no call of the module but for Context and Same, and leaves the record.
-fn other_line(area: &mut [u8], n: usize, r: Request)
+fn other_line(rt: &impl Print, area: &mut [u8], n: usize, r: Request)
     requires { (144000 ≤ length area.old) × (n ≤ 36000) }
 {
     if r.letter == letters::CONTEXT {
-        context_line(&area[0..n], r.a);
+        context_line(rt, &area[0..n], r.a);
         return;
     }
     if r.letter == letters::SAME {
         let end = OTHER + n;
-        same_line(&area[0..n], &area[OTHER..end]);
+        same_line(rt, &area[0..n], &area[OTHER..end]);
         return;
     }
     if r.letter == letters::IMAGE {
-        tell::bytes_line(b" : ", &area[0..n]);
+        tell::bytes_line(rt, b" : ", &area[0..n]);
         return;
     }
-    io::write_all(1, b"\n");
+    tell::put(rt, b"\n");
     if r.letter == letters::REMEMBER {
         copy(area, 0, OTHER, PART);
         return;
@@ -159,44 +157,51 @@ fn set_by(r: Request, before: Settings) -> Settings {
 }
 
 // Plays a request; the record after it.
-fn play_request(area: &mut [u8], n: usize, r: Request, state: Record, shown: bool) -> Record
+fn play_request(
+    rt: &impl Print,
+    area: &mut [u8],
+    n: usize,
+    r: Request,
+    state: Record,
+    shown: bool,
+) -> Record
     requires { (144000 ≤ length area.old) × (n ≤ 36000) }
 {
     if is_call(r.letter) {
-        return call_line(area, n, r, state);
+        return call_line(rt, area, n, r, state);
     }
     if r.letter == letters::COMMIT_FORECAST || r.letter == letters::FAULT_FORECAST {
-        forecast_line(&area[0..n], state, r);
+        forecast_line(rt, &area[0..n], state, r);
         return state;
     }
     if r.letter == letters::ORDER {
-        order_line(&area[0..n], state);
+        order_line(rt, &area[0..n], state);
         return state;
     }
     let letter = whole(r.letter);
     if letter != r.letter {
-        io::write_all(1, b"\n");
+        tell::put(rt, b"\n");
         let mut asked = r;
         asked.letter = letter;
-        every_cut(area, n, state, asked, shown);
+        every_cut(rt, area, n, state, asked, shown);
         return state;
     }
-    other_line(area, n, r);
+    other_line(rt, area, n, r);
     if r.letter == letters::CHANGE_RECORD {
         return changed(state, r.k, (r.a % 65536) as u16);
     }
     state
 }
 
-pub fn play_line(line: &[u8], area: &mut [u8], bench: Bench) -> Bench
+pub fn play_line(rt: &impl Print, line: &[u8], area: &mut [u8], bench: Bench) -> Bench
     requires { 144000 ≤ length area.old }
 {
-    io::write_all(1, line);
+    tell::put(rt, line);
     let r = request_of(line);
     let before = bench.settings;
     let settings = set_by(r, before);
     let n = at_most(settings.length, PART);
     let old = bench.state;
-    let state = play_request(area, n, r, old, settings.shown);
+    let state = play_request(rt, area, n, r, old, settings.shown);
     Bench { state, settings }
 }

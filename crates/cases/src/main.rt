@@ -33,9 +33,25 @@ ghost use Rattle.std.specs.Prelude.{◌≤◌, length};
 
 use fields::find;
 use lines::{Bench, Settings};
+use std::io::Read;
 use volatile::Record;
 
-fn play(text: &[u8], area: &mut [u8])
+// Reads until the text is full, the input ends or a read fails; how many bytes it put at the text's start.
+fn read_full<R: Read>(from: &mut R, text: &mut [u8]) -> usize
+    ensures { result ≤ length text.new }
+{
+    let mut done = 0;
+    while done < text.len() {
+        let n = from.read(&mut text[done..]).unwrap_or(0);
+        if n == 0 {
+            break;
+        }
+        done += n;
+    }
+    done
+}
+
+fn play(rt: &impl Print, text: &[u8], area: &mut [u8])
     requires { 144000 ≤ length area.old }
 {
     let state = Record::off();
@@ -48,14 +64,14 @@ fn play(text: &[u8], area: &mut [u8])
     while at < text.len() {
         let n = find(&text[at..], b'\n');
         let end = at + n;
-        bench = lines::play_line(&text[at..end], area, bench);
+        bench = lines::play_line(rt, &text[at..end], area, bench);
         at = end + 1;
     }
 }
 
-fn main() {
+fn main(rt: HostRuntime) {
     let mut text = [0u8; 65536];
     let mut area = [0u8; 144000];
-    let n = io::read_full(0, &mut text);
-    play(&text[0..n], &mut area);
+    let n = read_full(&mut rt.stdin(), &mut text);
+    play(&rt, &text[0..n], &mut area);
 }

@@ -77,7 +77,7 @@ fn banks_agree(image: &[u8]) -> bool {
     if end > image.len() {
         return false;
     }
-    check::same(&image[current..recovery], &image[recovery..end])
+    &image[current..recovery] == &image[recovery..end]
 }
 
 // Whether the image has the recovery state of the other, nothing is left to recover, and its banks agree.
@@ -105,8 +105,7 @@ fn every_power_up(area: &mut [u8], n: usize) -> Tally
         after: 0,
         neither: 0,
     };
-    let mut k = 0;
-    while k < 1000 {
+    for k in 0..1000 {
         copy(area, LEFT, 0, n);
         let done = power_up_twice(&mut area[0..n], k);
         let as_before = recovered(area, BEFORE, n);
@@ -115,29 +114,36 @@ fn every_power_up(area: &mut [u8], n: usize) -> Tally
         if done {
             return t;
         }
-        k += 1;
     }
     t
 }
 
 // The answer and the tally, and with `shown` the image that the cut call left.
-fn tell_cut(answer: Answer, t: Tally, image: &[u8], shown: bool) {
-    tell::answer(answer);
-    io::write_all(1, b", powered up: before");
-    tell::number(t.before as u64);
-    io::write_all(1, b", after");
-    tell::number(t.after as u64);
-    io::write_all(1, b", neither");
-    tell::number(t.neither as u64);
+fn tell_cut(rt: &impl Print, answer: Answer, t: Tally, image: &[u8], shown: bool) {
+    tell::answer(rt, answer);
+    tell::put(rt, b", powered up: before");
+    tell::number(rt, t.before as u64);
+    tell::put(rt, b", after");
+    tell::number(rt, t.after as u64);
+    tell::put(rt, b", neither");
+    tell::number(rt, t.neither as u64);
     if shown {
-        tell::bytes_line(b", image ", image);
+        tell::bytes_line(rt, b", image ", image);
         return;
     }
-    io::write_all(1, b"\n");
+    tell::put(rt, b"\n");
 }
 
 // The call cut at k, and its power-ups; whether it was cut. The image ends as it began.
-fn one_cut(area: &mut [u8], n: usize, state: Record, r: Request, k: usize, shown: bool) -> bool
+fn one_cut(
+    rt: &impl Print,
+    area: &mut [u8],
+    n: usize,
+    state: Record,
+    r: Request,
+    k: usize,
+    shown: bool,
+) -> bool
     requires { (144000 ≤ length area.old) × (n ≤ 36000) }
 {
     let reply = cut_call(&mut area[0..n], state, r, k);
@@ -145,33 +151,31 @@ fn one_cut(area: &mut [u8], n: usize, state: Record, r: Request, k: usize, shown
     copy(area, 0, LEFT, n);
     let t = every_power_up(area, n);
     let end = LEFT + n;
-    tell_cut(answer, t, &area[LEFT..end], shown);
+    tell_cut(rt, answer, t, &area[LEFT..end], shown);
     copy(area, BEFORE, 0, n);
     answer.status == answers::CUT
 }
 
 // From the image before it, the call cut at 0, 1, .. until it is not cut.
-fn cut_on(area: &mut [u8], n: usize, state: Record, r: Request, shown: bool)
+fn cut_on(rt: &impl Print, area: &mut [u8], n: usize, state: Record, r: Request, shown: bool)
     requires { (144000 ≤ length area.old) × (n ≤ 36000) }
 {
     copy(area, BEFORE, 0, n);
-    let mut k = 0;
-    while k < 1000 {
-        if !one_cut(area, n, state, r, k, shown) {
+    for k in 0..1000 {
+        if !one_cut(rt, area, n, state, r, k, shown) {
             return;
         }
-        k += 1;
     }
 }
 
 // The image before the call and the one after it, uncut and powered up, go to their parts; then the call is cut. The
 // image ends as it began.
-pub fn every_cut(area: &mut [u8], n: usize, state: Record, r: Request, shown: bool)
+pub fn every_cut(rt: &impl Print, area: &mut [u8], n: usize, state: Record, r: Request, shown: bool)
     requires { (144000 ≤ length area.old) × (n ≤ 36000) }
 {
     copy(area, 0, BEFORE, n);
     cut_call(&mut area[0..n], state, r, ENOUGH);
     recovery::power_up(&mut area[0..n], ENOUGH);
     copy(area, 0, OTHER, n);
-    cut_on(area, n, state, r, shown);
+    cut_on(rt, area, n, state, r, shown);
 }

@@ -2,76 +2,90 @@
 // How a run ends: at the limit of 99,999 lines, whose last is cut, by errors of the system, a page at these and at its
 // limit of 9,999 commits, and an order. Each run is told in a line, and the last lines of some follow. The long events
 // and what is printed of them are files of the folder that the program is run in.
+ghost use Rattle.std.specs.Prelude.{◌≤◌, length};
 ghost use Rattle.reports.specs.Tasks.{Fits};
 
 use reports::Task;
+use std::fs::{File, OpenOptions};
+use std::io;
+use std::io::{Read, Seek, SeekFrom, Write};
+use std::rt::Files;
 use stream::Ended;
 
-// Writes a line so many times.
-fn repeat(fd: i32, line: &[u8], times: usize) {
-    let mut left = times;
-    while left > 0 {
-        io::write_all(fd, line);
-        left -= 1;
+// Opens the file of a name for appending; it can't be read.
+fn open_append<R: Files>(rt: &R, name: &str) -> io::Result<R::File> {
+    OpenOptions::new().append(true).open(rt, name)
+}
+
+// Reads until the buffer is full, the input ends or a read fails; how many bytes it put at the buffer's start.
+fn read_full<R: Read>(from: &mut R, buffer: &mut [u8]) -> usize
+    ensures { result ≤ length buffer.new }
+{
+    let mut done = 0;
+    while done < buffer.len() {
+        let n = from.read(&mut buffer[done..]).unwrap_or(0);
+        if n == 0 {
+            break;
+        }
+        done += n;
     }
+    done
+}
+
+// Writes a line so many times.
+fn repeat<W: Write>(to: &mut W, line: &[u8], times: usize) -> io::Result<()> {
+    for _ in 0..times {
+        to.write_all(line)?;
+    }
+    Ok(())
 }
 
 // 100,001 lines, of which the fault in line 99,999 is cut; the last is longer than two pieces of what is read.
-fn write_events() {
-    let fd = os::open_overwrite(b"long");
-    io::write_all(fd, b"F,1,1,1,0\n");
-    repeat(fd, b"U\n", 99995);
-    io::write_all(fd, b"W,0,0,07\nZ,1\nX,0\nR,0,0,1\n");
-    repeat(fd, b"0123456789", 2000);
-    libc::close(fd);
+fn write_events<R: Files>(rt: &R) -> io::Result<()> {
+    let mut to = File::create(rt, "long")?;
+    to.write_all(b"F,1,1,1,0\n")?;
+    repeat(&mut to, b"U\n", 99995)?;
+    to.write_all(b"W,0,0,07\nZ,1\nX,0\nR,0,0,1\n")?;
+    repeat(&mut to, b"0123456789", 2000)
 }
 
 // A commit in line 99,999 and one in line 100,000; then a line that is longer than two pieces of what is read.
-fn write_late_commits() {
-    let fd = os::open_overwrite(b"commits");
-    io::write_all(fd, b"F,1,1,1,0\n");
-    repeat(fd, b"U\n", 99997);
-    repeat(fd, b"C,0,\n", 2);
-    repeat(fd, b"0123456789", 2000);
-    libc::close(fd);
+fn write_late_commits<R: Files>(rt: &R) -> io::Result<()> {
+    let mut to = File::create(rt, "commits")?;
+    to.write_all(b"F,1,1,1,0\n")?;
+    repeat(&mut to, b"U\n", 99997)?;
+    repeat(&mut to, b"C,0,\n", 2)?;
+    repeat(&mut to, b"0123456789", 2000)
 }
 
 // So many commits, each of which saves a cell; then a line that is longer than two pieces of what is read.
-fn write_commits(times: usize) {
-    let fd = os::open_overwrite(b"commits");
-    io::write_all(fd, b"F,1,1,1,0\n");
-    repeat(fd, b"W,0,0,07\nC,0,\n", times);
-    repeat(fd, b"0123456789", 2000);
-    libc::close(fd);
+fn write_commits<R: Files>(rt: &R, times: usize) -> io::Result<()> {
+    let mut to = File::create(rt, "commits")?;
+    to.write_all(b"F,1,1,1,0\n")?;
+    repeat(&mut to, b"W,0,0,07\nC,0,\n", times)?;
+    repeat(&mut to, b"0123456789", 2000)
 }
 
 // In line 99,999 board 0 comes to depend on board 1, and in line 100,000 neither would depend on the other any more;
 // then a line that is longer than two pieces of what is read.
-fn write_late_links() {
-    let fd = os::open_overwrite(b"links");
-    io::write_all(fd, b"F,3,1,1,0\n");
-    repeat(fd, b"U\n", 99996);
-    io::write_all(fd, b"W,1,0,07\nR,0,0,1\nX,1\n");
-    repeat(fd, b"0123456789", 2000);
-    libc::close(fd);
+fn write_late_links<R: Files>(rt: &R) -> io::Result<()> {
+    let mut to = File::create(rt, "links")?;
+    to.write_all(b"F,3,1,1,0\n")?;
+    repeat(&mut to, b"U\n", 99996)?;
+    to.write_all(b"W,1,0,07\nR,0,0,1\nX,1\n")?;
+    repeat(&mut to, b"0123456789", 2000)
 }
 
-fn tell(ended: Ended) {
+fn tell(rt: &impl Print, ended: Ended) -> io::Result<()> {
     match ended {
-        Ended::Played => {
-            io::write_all(1, b"played");
-        }
-        Ended::InputFailed => {
-            io::write_all(1, b"input failed");
-        }
-        Ended::OutputFailed => {
-            io::write_all(1, b"output failed");
-        }
+        Ended::Played => rt.write_all(b"played"),
+        Ended::InputFailed(_) => rt.write_all(b"input failed"),
+        Ended::OutputFailed(_) => rt.write_all(b"output failed"),
     }
 }
 
 // Plays from one open file to another.
-fn play_files(task: Task, from: i32, to: i32) -> Ended
+fn play_files<R: Read, W: Write>(task: Task, from: &mut R, to: &mut W) -> Ended
     requires { Fits task }
 {
     let mut input = [0u8; 8353];
@@ -81,94 +95,112 @@ fn play_files(task: Task, from: i32, to: i32) -> Ended
 }
 
 // Plays; tells how that ended, and the next two bytes of the input, if any are left.
-fn play(name: &[u8], task: Task, from: i32, to: i32)
+fn play<R: Files + Print>(
+    rt: &R,
+    name: &[u8],
+    task: Task,
+    mut from: R::File,
+    mut to: R::File,
+) -> io::Result<()>
     requires { Fits task }
 {
     let mut next = [0u8; 2];
-    io::write_all(1, name);
-    let ended = play_files(task, from, to);
-    tell(ended);
-    let n = io::read_full(from, &mut next);
-    io::write_all(1, b", left: ");
-    io::write_all(1, &next[..n]);
-    io::write_all(1, b"\n");
-    libc::close(from);
-    libc::close(to);
+    rt.write_all(name)?;
+    let ended = play_files(task, &mut from, &mut to);
+    tell(rt, ended)?;
+    let n = read_full(&mut from, &mut next);
+    rt.write_all(b", left: ")?;
+    rt.write_all(&next[..n])?;
+    rt.write_all(b"\n")
 }
 
 // The last bytes that were printed, from an offset on that counts back from the end.
-fn tell_last(offset: i64) {
+fn tell_last<R: Files + Print>(rt: &R, offset: i64) -> io::Result<()> {
     let mut text = [0u8; 96];
-    let fd = os::open_read(b"played");
-    libc::lseek(fd, offset, libc::SEEK_END);
-    let n = io::read_full(fd, &mut text);
-    io::write_all(1, &text[..n]);
-    libc::close(fd);
+    let mut file = File::open(rt, "played")?;
+    // Fewer bytes than that are told from the first on.
+    let _ = file.seek(SeekFrom::End(offset));
+    let n = read_full(&mut file, &mut text);
+    rt.write_all(&text[..n])
 }
 
 // `rsmrun`.
-fn play_rows(name: &[u8], from: i32, to: i32) {
+fn play_rows<R: Files + Print>(rt: &R, name: &[u8], from: R::File, to: R::File) -> io::Result<()> {
     let task = Task::rows();
-    play(name, task, from, to);
+    play(rt, name, task, from, to)
 }
 
 // `rsmpage`, and the last three lines that it printed.
-fn play_page(name: &[u8], from: i32) {
+fn play_page<R: Files + Print>(rt: &R, name: &[u8], from: R::File) -> io::Result<()> {
     let task = Task::page();
-    play(name, task, from, os::open_overwrite(b"played"));
-    tell_last(-96);
+    play(rt, name, task, from, File::create(rt, "played")?)?;
+    tell_last(rt, -96)
 }
 
 // `rsmorder`, and the last three lines that it printed.
-fn play_order(name: &[u8], from: i32) {
+fn play_order<R: Files + Print>(rt: &R, name: &[u8], from: R::File) -> io::Result<()> {
     let task = Task::order();
-    play(name, task, from, os::open_overwrite(b"played"));
-    tell_last(-15);
+    play(rt, name, task, from, File::create(rt, "played")?)?;
+    tell_last(rt, -15)
 }
 
-// At the limit of lines, by errors of the system; after a write that failed nothing more is read.
-fn play_all_rows() {
-    write_events();
+// At the limit of lines, by errors of the system; after a write that failed nothing more is read. A file that is open
+// for writing alone stands for a closed input, one for reading alone for a closed output: the system answers the same.
+fn play_all_rows<R: Files + Print>(rt: &R) -> io::Result<()> {
+    write_events(rt)?;
     play_rows(
+        rt,
         b"100,001 lines: ",
-        os::open_read(b"long"),
-        os::open_overwrite(b"played"),
-    );
+        File::open(rt, "long")?,
+        File::create(rt, "played")?,
+    )?;
     play_rows(
+        rt,
         b"a directory as input: ",
-        os::open_read(b"."),
-        os::open_append(b"played"),
-    );
-    play_rows(b"closed input: ", -1, os::open_append(b"played"));
+        File::open(rt, ".")?,
+        open_append(rt, "played")?,
+    )?;
     play_rows(
+        rt,
+        b"closed input: ",
+        open_append(rt, "played")?,
+        open_append(rt, "played")?,
+    )?;
+    play_rows(
+        rt,
         b"full output: ",
-        os::open_read(b"long"),
-        os::open_overwrite(b"/dev/full"),
-    );
-    play_rows(b"closed output: ", os::open_read(b"long"), -1);
-    tell_last(-80);
+        File::open(rt, "long")?,
+        File::create(rt, "/dev/full")?,
+    )?;
+    play_rows(
+        rt,
+        b"closed output: ",
+        File::open(rt, "long")?,
+        File::open(rt, "played")?,
+    )?;
+    tell_last(rt, -80)
 }
 
 // At the limits of commits and of lines; after a read that failed there is no total line.
-fn play_all_pages() {
-    write_commits(9999);
-    play_page(b"page of 9,999 commits: ", os::open_read(b"commits"));
-    write_commits(10000);
-    play_page(b"page of 10,000 commits: ", os::open_read(b"commits"));
-    write_late_commits();
-    play_page(b"page of 100,001 lines: ", os::open_read(b"commits"));
-    play_page(b"page of a directory: ", os::open_read(b"."));
+fn play_all_pages<R: Files + Print>(rt: &R) -> io::Result<()> {
+    write_commits(rt, 9999)?;
+    play_page(rt, b"page of 9,999 commits: ", File::open(rt, "commits")?)?;
+    write_commits(rt, 10000)?;
+    play_page(rt, b"page of 10,000 commits: ", File::open(rt, "commits")?)?;
+    write_late_commits(rt)?;
+    play_page(rt, b"page of 100,001 lines: ", File::open(rt, "commits")?)?;
+    play_page(rt, b"page of a directory: ", File::open(rt, ".")?)
 }
 
 // At the limit of lines; after a read that failed there is no order.
-fn play_all_orders() {
-    write_late_links();
-    play_order(b"order of 100,001 lines: ", os::open_read(b"links"));
-    play_order(b"order of a directory: ", os::open_read(b"."));
+fn play_all_orders<R: Files + Print>(rt: &R) -> io::Result<()> {
+    write_late_links(rt)?;
+    play_order(rt, b"order of 100,001 lines: ", File::open(rt, "links")?)?;
+    play_order(rt, b"order of a directory: ", File::open(rt, ".")?)
 }
 
-fn main() {
-    play_all_rows();
-    play_all_pages();
-    play_all_orders();
+fn main(rt: HostRuntime) -> io::Result<()> {
+    play_all_rows(&rt)?;
+    play_all_pages(&rt)?;
+    play_all_orders(&rt)
 }

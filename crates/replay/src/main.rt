@@ -7,6 +7,11 @@ ghost use Rattle.std.specs.Prelude.{◌+◌, ◌≤◌, length};
 ghost use Rattle.reports.specs.Tasks.{Fits};
 
 use reports::Task;
+use std::env::FillError;
+use std::fs::File;
+use std::io::{ErrorKind, Read, Write};
+use std::rt::{Env, Files};
+use std::{io, str};
 use stream::Ended;
 
 // What was read of a file, and whether that is all of it.
@@ -41,19 +46,17 @@ fn with_ending(path: &mut [u8], n: usize, ending: &[u8]) -> usize
 }
 
 // Reads an open file to its end. One that fills the buffer may go on behind it: it is not read whole.
-fn read_all(fd: i32, text: &mut [u8]) -> Got
+fn read_all<R: Read>(from: &mut R, text: &mut [u8]) -> Got
     ensures { result.length ≤ length text.new }
 {
     let mut n = 0;
     while n < text.len() {
-        let got = libc::read(fd, &mut text[n..]);
-        if got < 0 {
+        let Ok(more) = from.read(&mut text[n..]) else {
             return Got {
                 length: n,
                 whole: false,
             };
-        }
-        let more = io::count(got, &text[n..]);
+        };
         if more == 0 {
             return Got {
                 length: n,
@@ -68,13 +71,24 @@ fn read_all(fd: i32, text: &mut [u8]) -> Got
     }
 }
 
-fn load(name: &[u8], text: &mut [u8]) -> Got
+// Opens the file of a path for reading.
+fn open_read<R: Files>(rt: &R, path: &[u8]) -> io::Result<R::File> {
+    match str::from_utf8(path) {
+        Ok(name) => File::open(rt, name),
+        Err(_) => Err(io::Error::from(ErrorKind::InvalidInput)),
+    }
+}
+
+fn load<R: Files>(rt: &R, name: &[u8], text: &mut [u8]) -> Got
     ensures { result.length ≤ length text.new }
 {
-    let fd = os::open_read(name);
-    let got = read_all(fd, text);
-    libc::close(fd);
-    got
+    let Ok(mut file) = open_read(rt, name) else {
+        return Got {
+            length: 0,
+            whole: false,
+        };
+    };
+    read_all(&mut file, text)
 }
 
 // How many lines a text has: as many as line feeds, and one more if something follows the last.
@@ -118,7 +132,7 @@ fn all_played(ended: Ended) -> bool {
 
 // Plays from one open file to another, on an area that holds anything. The input is no longer than what may be kept and
 // a piece; the output is small, so that many pieces take several turns.
-fn play_files(size: usize, task: Task, from: i32, to: i32) -> Ended
+fn play_files<R: Read, W: Write>(size: usize, task: Task, from: &mut R, to: &mut W) -> Ended
     requires { (1 ≤ size) × (size ≤ 8192) × Fits task }
 {
     let mut input = [0u8; 8353];
@@ -137,26 +151,28 @@ fn play_files(size: usize, task: Task, from: i32, to: i32) -> Ended
 }
 
 // Plays the events by pieces of a size, into the file `played`.
-fn play_by(size: usize, task: Task, events: &[u8]) -> bool
+fn play_by<R: Files>(rt: &R, size: usize, task: Task, events: &[u8]) -> bool
     requires { (1 ≤ size) × (size ≤ 8192) × Fits task }
 {
-    let from = os::open_read(events);
-    let to = os::open_overwrite(b"played");
-    let ended = play_files(size, task, from, to);
-    libc::close(from);
-    libc::close(to);
+    let Ok(mut from) = open_read(rt, events) else {
+        return false;
+    };
+    let Ok(mut to) = File::create(rt, "played") else {
+        return false;
+    };
+    let ended = play_files(size, task, &mut from, &mut to);
     all_played(ended)
 }
 
 // Whether all was played and the file `played` holds what a stored file holds.
-fn as_expected(all: bool, stored: &[u8]) -> bool {
+fn as_expected<R: Files>(rt: &R, all: bool, stored: &[u8]) -> bool {
     if !all {
         return false;
     }
     let mut wanted = [0u8; 65536];
     let mut text = [0u8; 65536];
-    let a = load(stored, &mut wanted);
-    let p = load(b"played", &mut text);
+    let a = load(rt, stored, &mut wanted);
+    let p = load(rt, b"played", &mut text);
     if !a.whole {
         return false;
     }
@@ -165,49 +181,56 @@ fn as_expected(all: bool, stored: &[u8]) -> bool {
     }
     let n = a.length;
     let m = p.length;
-    check::same(&text[0..m], &wanted[0..n])
+    &text[0..m] == &wanted[0..n]
 }
 
 // Plays the events of a name by pieces of a size; whether what is printed is what the file with an ending holds.
-fn play_name(path: &mut [u8], n: usize, size: usize, task: Task, ending: &[u8]) -> bool
+fn play_name<R: Files>(
+    rt: &R,
+    path: &mut [u8],
+    n: usize,
+    size: usize,
+    task: Task,
+    ending: &[u8],
+) -> bool
     requires { (n ≤ length path.old) × (1 ≤ size) × (size ≤ 8192) × Fits task }
 {
     let end = with_ending(path, n, b".events");
-    let all = play_by(size, task, &path[0..end]);
+    let all = play_by(rt, size, task, &path[0..end]);
     let last = with_ending(path, n, ending);
-    as_expected(all, &path[0..last])
+    as_expected(rt, all, &path[0..last])
 }
 
 // Whether both answers and page are as expected.
-fn play_both(path: &mut [u8], n: usize, size: usize) -> bool
+fn play_both<R: Files>(rt: &R, path: &mut [u8], n: usize, size: usize) -> bool
     requires { (n ≤ length path.old) × (1 ≤ size) × (size ≤ 8192) }
 {
     let rows = Task::rows();
-    if !play_name(path, n, size, rows, b".answers") {
+    if !play_name(rt, path, n, size, rows, b".answers") {
         return false;
     }
     let page = Task::page();
-    play_name(path, n, size, page, b".page")
+    play_name(rt, path, n, size, page, b".page")
 }
 
 // Whether these and the order are.
-fn play_all(path: &mut [u8], n: usize, size: usize) -> bool
+fn play_all<R: Files>(rt: &R, path: &mut [u8], n: usize, size: usize) -> bool
     requires { (n ≤ length path.old) × (1 ≤ size) × (size ≤ 8192) }
 {
-    if !play_both(path, n, size) {
+    if !play_both(rt, path, n, size) {
         return false;
     }
     let order = Task::order();
-    play_name(path, n, size, order, b".order")
+    play_name(rt, path, n, size, order, b".order")
 }
 
 // Plays them by pieces of each size; the first size by which one of these is not as expected, or 0.
-fn play_sizes(path: &mut [u8], n: usize) -> usize
+fn play_sizes<R: Files>(rt: &R, path: &mut [u8], n: usize) -> usize
     requires { n ≤ length path.old }
 {
     for i in 0..5 {
         let size = size_of(i);
-        if !play_all(path, n, size) {
+        if !play_all(rt, path, n, size) {
             return size;
         }
     }
@@ -215,59 +238,63 @@ fn play_sizes(path: &mut [u8], n: usize) -> usize
 }
 
 // How many lines the events of a name have.
-fn lines_of(path: &mut [u8], n: usize) -> usize
+fn lines_of<R: Files>(rt: &R, path: &mut [u8], n: usize) -> usize
     requires { n ≤ length path.old }
 {
     let mut text = [0u8; 65536];
     let end = with_ending(path, n, b".events");
-    let e = load(&path[0..end], &mut text);
+    let e = load(rt, &path[0..end], &mut text);
     let length = e.length;
     line_count(&text[0..length])
 }
 
 // The rest of a file's line; answers how many files differ: 0 or 1.
-fn report(lines: usize, size: usize) -> usize
+fn report(rt: &impl Print, lines: usize, size: usize) -> usize
     ensures { result ≤ 1 }
 {
     if size == 0 {
-        io::write_all(1, b": ");
-        io::print_decimal(1, lines as u64);
-        io::write_all(1, b" lines, as expected\n");
+        let _ = println!(rt; ": {lines} lines, as expected");
         return 0;
     }
-    io::write_all(1, b": not as expected by pieces of ");
-    io::print_decimal(1, size as u64);
-    io::write_all(1, b"\n");
+    let _ = println!(rt; ": not as expected by pieces of {size}");
     1
 }
 
 // Plays the files that an argument names; answers 0 or 1.
-fn replay(i: usize, path: &mut [u8]) -> usize
+fn replay<R: Env + Files + Print>(rt: &R, i: usize, path: &mut [u8]) -> usize
     ensures { result ≤ 1 }
 {
-    let n = os::arg(i, path);
-    io::write_all(1, &path[0..n]);
-    let lines = lines_of(path, n);
-    let size = play_sizes(path, n);
-    report(lines, size)
+    let n = rt.arg(i, path).unwrap_or(0);
+    let _ = rt.write_all(&path[0..n]);
+    let lines = lines_of(rt, path, n);
+    let size = play_sizes(rt, path, n);
+    report(rt, lines, size)
 }
 
-fn report_all(files: usize, differ: usize) {
-    io::print_decimal(1, files as u64);
-    io::write_all(1, b" files, ");
-    io::print_decimal(1, differ as u64);
-    io::write_all(1, b" differ\n");
+// How many arguments the program was started with, its own name among them.
+fn arg_count(rt: &impl Env) -> usize {
+    let mut none = [0u8; 0];
+    for i in 0..usize::MAX {
+        if let Err(FillError::NotPresent) = rt.arg(i, &mut none) {
+            return i;
+        }
+    }
+    usize::MAX
 }
 
-fn main() {
+fn report_all(rt: &impl Print, files: usize, differ: usize) {
+    let _ = println!(rt; "{files} files, {differ} differ");
+}
+
+fn main(rt: HostRuntime) {
     let mut path = [0u8; 256];
-    let count = os::arg_count();
+    let count = arg_count(&rt);
     let mut differ = 0;
     let mut i = 1;
     while i < count {
-        let more = replay(i, &mut path);
+        let more = replay(&rt, i, &mut path);
         differ += more;
         i += 1;
     }
-    report_all(i - 1, differ);
+    report_all(&rt, i - 1, differ);
 }

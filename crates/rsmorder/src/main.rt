@@ -4,9 +4,12 @@
 // error of the system is told in one line on standard error; after one of reading there is no order.
 use reports::Task;
 
-fn main() {
+fn main(rt: HostRuntime) {
     let task = Task::order();
     stream::run(
+        &mut rt.stdin(),
+        &mut rt.stdout(),
+        &mut rt.stderr(),
         task,
         b"rsmorder: standard input",
         b"rsmorder: standard output",

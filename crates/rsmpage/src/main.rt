@@ -4,9 +4,12 @@
 // standard error, and then there is no total line.
 use reports::Task;
 
-fn main() {
+fn main(rt: HostRuntime) {
     let task = Task::page();
     stream::run(
+        &mut rt.stdin(),
+        &mut rt.stdout(),
+        &mut rt.stderr(),
         task,
         b"rsmpage: standard input",
         b"rsmpage: standard output",

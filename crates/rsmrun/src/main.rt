@@ -3,7 +3,14 @@
 // There is no exit status: an error of the system is told in one line on standard error.
 use reports::Task;
 
-fn main() {
+fn main(rt: HostRuntime) {
     let task = Task::rows();
-    stream::run(task, b"rsmrun: standard input", b"rsmrun: standard output");
+    stream::run(
+        &mut rt.stdin(),
+        &mut rt.stdout(),
+        &mut rt.stderr(),
+        task,
+        b"rsmrun: standard input",
+        b"rsmrun: standard output",
+    );
 }

@@ -1,5 +1,5 @@
 #![tactic(auto)]
-// Event lines from one open file, what is printed of them to another.
+// Event lines from a reader, what is printed of them to a writer.
 ghost use Rattle.std.specs.Prelude.{◌+◌, ◌≤◌, length};
 ghost use Rattle.pieces.specs.Pieces.{Kept};
 ghost use Rattle.pieces.specs.Answers.{Over};
@@ -10,64 +10,91 @@ use feeder::feed;
 use pieces::{Got, Stop, meaning_of};
 use reports::Task;
 use rest::play_rest;
+use std::io;
+use std::io::{ErrorKind, Read, Write};
 
-// How playing ended: all was played and written, or a read or a write failed.
+// How playing ended: all was played and written, or a read or a write failed, with this error.
 #[derive(Clone, Copy)]
 pub enum Ended {
     Played,
-    InputFailed,
-    OutputFailed,
+    InputFailed(io::Error),
+    OutputFailed(io::Error),
 }
 
-// Reads at most `size` characters behind those that are held.
-fn read_behind(from: i32, size: usize, input: &mut [u8], held: usize) -> Got
+// Reads at most `size` characters behind those that are held; `error` becomes that of a read that fails.
+fn read_behind<R: Read>(
+    from: &mut R,
+    size: usize,
+    input: &mut [u8],
+    held: usize,
+    error: &mut io::Error,
+) -> Got
     requires { held + size ≤ length input.old }
     ensures { Reads result held input.old input.new }
 {
     let end = held + size;
-    let got = libc::read(from, &mut input[held..end]);
-    let interrupted = os::errno() == libc::EINTR;
-    let n = io::count(got, &input[held..end]);
-    meaning_of(got < 0, interrupted, held, held + n)
+    match from.read(&mut input[held..end]) {
+        Ok(n) => meaning_of(false, false, held, held + n),
+        Err(e) => {
+            *error = e;
+            let interrupted = e.kind() == ErrorKind::Interrupted;
+            meaning_of(true, interrupted, held, held)
+        }
+    }
 }
 
 // The text for the next turn: what is held where more of it is to be played, else what is read behind it.
-pub fn next_text(from: i32, size: usize, input: &mut [u8], held: usize, stop: Stop) -> Got
+pub fn next_text<R: Read>(
+    from: &mut R,
+    size: usize,
+    input: &mut [u8],
+    held: usize,
+    stop: Stop,
+    error: &mut io::Error,
+) -> Got
     requires { (161 + size ≤ length input.old) × (Kept stop held input.old) }
     ensures { Next result held input.new }
 {
     match stop {
-        Stop::Unfinished => read_behind(from, size, input, held),
+        Stop::Unfinished => read_behind(from, size, input, held, error),
         Stop::Full => Got::Text(held),
         Stop::Limit => Got::End,
     }
 }
 
-fn ending(got: Got) -> Ended {
+fn ending(got: Got, error: io::Error) -> Ended {
     match got {
-        Got::Failed => Ended::InputFailed,
+        Got::Failed => Ended::InputFailed(error),
         _ => Ended::Played,
     }
 }
 
 // No text comes any more: what is left is played and written.
-fn close(got: Got, to: i32, rest: &[u8], area: &mut [u8], task: Task, out: &mut [u8]) -> Ended
+fn close<W: Write>(
+    got: Got,
+    error: io::Error,
+    to: &mut W,
+    rest: &[u8],
+    area: &mut [u8],
+    task: Task,
+    out: &mut [u8],
+) -> Ended
     requires { (Over got rest.now) × Fits task × (35852 ≤ length area.old) × (400 ≤ length out.old) }
 {
     let n = play_rest(got, rest, area, task, out);
-    if !io::write_all(to, &out[0..n]) {
-        return Ended::OutputFailed;
+    if let Err(e) = to.write_all(&out[0..n]) {
+        return Ended::OutputFailed(e);
     }
-    ending(got)
+    ending(got, error)
 }
 
 // Plays the lines that are read, at most `size` characters at a time, and writes what the task prints of them, to the
 // input's end or until no next line is played. `size` is at least 1, since a read of no characters would look like the
 // input's end. A proved loop has to end, and nothing says that an input does: the loop counts its turns down from a
 // number that no run uses up.
-pub fn play(
-    from: i32,
-    to: i32,
+pub fn play<R: Read, W: Write>(
+    from: &mut R,
+    to: &mut W,
     size: usize,
     first: Task,
     input: &mut [u8],
@@ -80,16 +107,17 @@ pub fn play(
     let mut task = first;
     let mut held = 0;
     let mut stop = Stop::Unfinished;
+    let mut error = io::Error::from_raw_os_error(0);
     let mut turns = u64::MAX;
     while turns > 0 {
-        let got = next_text(from, size, input, held, stop);
+        let got = next_text(from, size, input, held, stop, &mut error);
         let Got::Text(end) = got else {
-            return close(got, to, &input[0..held], area, task, out);
+            return close(got, error, to, &input[0..held], area, task, out);
         };
         let fed = feed(input, end, area, task, out);
         let n = fed.written;
-        if !io::write_all(to, &out[0..n]) {
-            return Ended::OutputFailed;
+        if let Err(e) = to.write_all(&out[0..n]) {
+            return Ended::OutputFailed(e);
         }
         task = fed.task;
         held = fed.held;
@@ -99,24 +127,44 @@ pub fn play(
     Ended::Played
 }
 
+// Writes a line: what failed, as the caller names it, a colon and the system's text for the error, behind which the
+// error itself gives its number in brackets.
+fn fail<W: Write>(to: &mut W, what: &[u8], error: io::Error) {
+    let mut text = [b'('; 96];
+    let mut rest = &mut text[..];
+    let _ = write!(rest, "{error}");
+    let n = text.iter().position(|b| *b == b'(').unwrap_or(text.len());
+    let _ = to.write_all(what);
+    let _ = to.write_all(b": ");
+    let _ = to.write_all(text[..n].trim_ascii_end());
+    let _ = to.write_all(b"\n");
+}
+
 // An error of the system is told in one line on standard error.
-fn tell(ended: Ended, input: &[u8], output: &[u8]) {
+fn tell<W: Write>(ended: Ended, to: &mut W, input: &[u8], output: &[u8]) {
     match ended {
         Ended::Played => {}
-        Ended::InputFailed => os::fail(input),
-        Ended::OutputFailed => os::fail(output),
+        Ended::InputFailed(error) => fail(to, input, error),
+        Ended::OutputFailed(error) => fail(to, output, error),
     }
 }
 
-// A whole program: plays standard input to standard output; `input` and `output` name these in a message. The input has
-// room for 161 characters that are kept and 4,096 that are read; the output for what most pieces answer, so that few
-// are played in two turns.
-pub fn run(first: Task, input: &[u8], output: &[u8])
+// A whole program: plays `from` to `to`, and tells an error to `errors`; for a program these are its standard streams.
+// `input` and `output` name the first two in a message. The input has room for 161 characters that are kept and 4,096
+// that are read; the output for what most pieces answer, so that few are played in two turns.
+pub fn run<R: Read, W: Write, E: Write>(
+    from: &mut R,
+    to: &mut W,
+    errors: &mut E,
+    first: Task,
+    input: &[u8],
+    output: &[u8],
+)
     requires { Fits first }
 {
     let mut area = [0u8; 35852];
     let mut text = [0u8; 4257];
     let mut out = [0u8; 16384];
-    let ended = play(0, 1, 4096, first, &mut text, &mut area, &mut out);
-    tell(ended, input, output);
+    let ended = play(from, to, 4096, first, &mut text, &mut area, &mut out);
+    tell(ended, errors, input, output);
 }
