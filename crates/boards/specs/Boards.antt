@@ -78,7 +78,7 @@ passes d zero g = g
 passes d (suc n) g = pass d (passes d n g)
 
 -- The commit group: board i and all that it depends on through any chain. Sixteen passes reach them all,
--- which Groups-follow-chains says.
+-- which GroupsFollowChains says.
 unfoldable pub commit_group : Links → ℕ → ℕ
 commit_group d i = passes d 16 (single i)
 

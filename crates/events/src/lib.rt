@@ -8,8 +8,8 @@ ghost use Rattle.text.specs.declared.Letter.TheVariants.{Listed};
 ghost use Rattle.fields.specs.Numbers.{values_of};
 ghost use Rattle.events.specs.Made.{bytes_last, of_numbers, of_bytes};
 
-use hexadecimal::read_bytes;
 use fields::{Numbers, Values, first_letter, read_numbers};
+use hexadecimal::read_bytes;
 use protocol::Shape;
 use text::{
     ACKNOWLEDGE, Bytes, FAULT, FORMAT, Letter, POWER_UP, Parsed, READ, START, UNREADABLE, WRITE,

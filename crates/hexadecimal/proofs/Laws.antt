@@ -18,7 +18,7 @@ use Rattle.text.proofs.Places.{from}
 
 module _ (s : List ℕ) (i : ℕ) (l : i + 1 < length s) where
   step : pairs (drop i s) ≡ leb (digit (get_or s i 0)) 15
-  && (leb (digit (get_or s (i + 1) 0)) 15 && pairs (drop (i + 2) s))
+      && (leb (digit (get_or s (i + 1) 0)) 15 && pairs (drop (i + 2) s))
   unfolding pairs
   step =
       let next : i + 1 + 1 ≡ i + 2 = omega arith in
@@ -31,7 +31,7 @@ module _ (s : List ℕ) (i : ℕ) (l : i + 1 < length s) where
   pairs_low h = step ∙ and_false (leb (digit (get_or s i 0)) 15) (rw (lt-leb (digit (get_or s (i + 1) 0)) 15 h))
 
   pub pairs_more : digit (get_or s i 0) ≤ 15 → digit (get_or s (i + 1) 0) ≤ 15
-  → pairs (drop i s) ≡ pairs (drop (i + 2) s)
+      → pairs (drop i s) ≡ pairs (drop (i + 2) s)
   pairs_more h k = step ∙ rw (le-leb (digit (get_or s i 0)) 15 h, le-leb (digit (get_or s (i + 1) 0)) 15 k)
 
 pub pairs_end : (s : List ℕ) (i : ℕ) → i ≤ length s → length s ≤ i + 1 → pairs (drop i s) ≡ eqb i (length s)

@@ -14,7 +14,7 @@ use Rattle.boards.specs.Lists.{span, any_of, select}
 use Rattle.boards.specs.Boards.{has, meets, Links, unlinked, link, unlink, Chain, here}
 use Rattle.protocol.specs.Accesses.{touched, whole, read_binding, write_binding, bind_blocks}
 use Rattle.protocol.specs.declared.Binding.{Binding}
-use Rattle.protocol.specs.Ledger.{Access, Fate, pending, kept, undone, Wrote, Read_from, Note, OpenCommit}
+use Rattle.protocol.specs.Ledger.{Access, Fate, pending, kept, undone, Wrote, ReadFrom, Note, OpenCommit}
 use Rattle.protocol.specs.Ledger.{Ledger, blank}
 use Rattle.protocol.specs.Ledger.{is_pending, covers, written, sources_of, wrote_in, writer, source, settled}
 use Rattle.protocol.specs.Ledger.{cleared, all_undone, noted, started, acknowledged_by, with_context, decided}
@@ -133,7 +133,7 @@ all_zip f (also p ps) (also q qs) = also (f _ p q) (all_zip f ps qs)
 
 -- a read covers no cell and writes in no block
 pub read_covers : (i a x : ℕ) (f : Fate) (os : List (Option ℕ)) → covers
-    (record { board = i; cell = a; access = Read_from os; fate = f }) x ≡ false
+    (record { board = i; cell = a; access = ReadFrom os; fate = f }) x ≡ false
 unfolding covers written
 read_covers i a x f os =
     refute (leb a x && ltb x (a + 0)) (λ e.
@@ -144,7 +144,7 @@ read_covers i a x f os =
 
 -- so it is no write of a whole block
 read_leaves : (s : Shape) (b i a : ℕ) (f : Fate) (os : List (Option ℕ)) → 0 < s.size
-    → wrote_all s (record { board = i; cell = a; access = Read_from os; fate = f }) b ≡ false
+    → wrote_all s (record { board = i; cell = a; access = ReadFrom os; fate = f }) b ≡ false
 unfolding wrote_all
 read_leaves s b i a f os positive =
     refute _ (λ e. clash (every_at s.size _ e 0 positive) (read_covers i a (b * s.size + 0) f os))
@@ -212,12 +212,12 @@ module _ {s : Shape} {l : Ledger} (c : Consistent s l) {how : ℕ → Binding} {
     -- a read's note
     source_backed : (os : List (Option ℕ)) (x : ℕ) → any_of (eqb (x / s.size)) (touched s a n) ≡ true
         → goes_forth (how (x / s.size)) ≡ true
-        → Backed linked (record { board = i; cell = a; access = Read_from os; fate = pending } ∷ l.notes)
-        (record { board = i; cell = a; access = Read_from os; fate = pending }) (source l.notes x)
+        → Backed linked (record { board = i; cell = a; access = ReadFrom os; fate = pending } ∷ l.notes)
+        (record { board = i; cell = a; access = ReadFrom os; fate = pending }) (source l.notes x)
     source_backed os x h d = go (source l.notes x) refl
       where
         new : Note
-        new = record { board = i; cell = a; access = Read_from os; fate = pending }
+        new = record { board = i; cell = a; access = ReadFrom os; fate = pending }
 
         by : {k : ℕ} → Sourced l.links (writer s l.notes (x / s.size)) l.notes k
             → Backed linked (new ∷ l.notes) new (some k)
@@ -229,11 +229,11 @@ module _ {s : Shape} {l : Ledger} (c : Consistent s l) {how : ℕ → Binding} {
         go (some k) e = by (sourced l.links (writer s l.notes (x / s.size)) l.notes x k (c.order x).top e)
 
 module _ {s : Shape} {l : Ledger} (c : Consistent s l) {i a n : ℕ} (ok : AccessOk s read_binding i a n l) where
-  pub noted_read : Consistent s (noted s read_binding i a n (Read_from (span (source l.notes) a n)) l)
+  pub noted_read : Consistent s (noted s read_binding i a n (ReadFrom (span (source l.notes) a n)) l)
   unfolding noted linked writer wrote_in written marks sources_of width read_binding goes_forth goes_back is_write
   noted_read =
       let os = span (source l.notes) a n in
-      let new : Note = record { board = i; cell = a; access = Read_from os; fate = pending } in
+      let new : Note = record { board = i; cell = a; access = ReadFrom os; fate = pending } in
       let wide : length os ≡ n = length_span (source l.notes) a n in
       record {
         bounded = linked_bounded c ok;
@@ -247,7 +247,7 @@ module _ {s : Shape} {l : Ledger} (c : Consistent s l) {i a n : ℕ} (ok : Acces
         closed = linked_closed c ok;
         narrow = also {x = new} (let few = ok.few in omega (arith, wide)) c.narrow;
         told =
-            linked_told c ok (Read_from os) wide
+            linked_told c ok (ReadFrom os) wide
             (λ b. sym (ap not (read_leaves s b i a pending os ok.positive))) (λ b. refl);
       }
 

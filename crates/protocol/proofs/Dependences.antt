@@ -13,7 +13,7 @@ use Rattle.boards.specs.Boards.{Links, link, unlink}
 use Rattle.protocol.specs.Accesses.{touched, whole, bind_boards, bind_tag, bind_blocks}
 use Rattle.protocol.specs.declared.Binding.{Binding}
 use Rattle.protocol.specs.declared.Binding.TheVariants.{OneWay, TwoWay, Opposite}
-use Rattle.protocol.specs.Ledger.{Fate, pending, kept, undone, Access, Wrote, Read_from, Note, is_pending}
+use Rattle.protocol.specs.Ledger.{Fate, pending, kept, undone, Access, Wrote, ReadFrom, Note, is_pending}
 use Rattle.protocol.specs.Ledger.{written, covers, wrote_in, writer, settled}
 use Rattle.protocol.specs.Dependences.{width, is_write, in_blocks, wrote_all, last_by, came_upon}
 use Rattle.protocol.specs.Dependences.{depends_by_notes}
@@ -121,7 +121,7 @@ wrote_in_cells s b n positive = go n.access
     go : (x : Access) → width x ≤ s.size
         → ltb 0 (length (written x)) && any_of (eqb b) (touched s n.cell (length (written x)))
         ≡ is_write x && any (width x) (λ y. eqb b ((n.cell + y) / s.size))
-    go (Read_from sources) few = refl
+    go (ReadFrom sources) few = refl
     go (Wrote bytes) few =
         ⊎_elim
         (λ (e : ltb 0 (length bytes) ≡ true).

@@ -19,7 +19,7 @@ use Rattle.protocol.specs.declared.Binding.{Binding}
 use Rattle.protocol.specs.declared.Binding.TheVariants.{OneWay, TwoWay, Opposite}
 use Rattle.protocol.specs.Accesses.{bind_tag, bind_blocks}
 use Rattle.protocol.specs.Calls.{placing, tagging, blocks_copied}
-use Rattle.protocol.specs.Ledger.{pending, undone, Wrote, Read_from, Note, Ledger, is_pending, covers, written}
+use Rattle.protocol.specs.Ledger.{pending, undone, Wrote, ReadFrom, Note, Ledger, is_pending, covers, written}
 use Rattle.protocol.specs.Ledger.{wrote_in, writer, source, cleared, noted}
 use Rattle.protocol.specs.declared.Shape.{Shape}
 use Rattle.volatile.specs.declared.Record.{Record}
@@ -124,7 +124,7 @@ module _ {s : Shape} {m : Memory} {r : Record} {l : Ledger} (h : On s m r l) (mo
   -- a read
   pub read_done : {i a n : ℕ} → AccessOk s read_binding i a n l → All (λ b. b < s.blocks) (touched s a n)
       → On s m (bind_blocks depend read_binding (m Tags) r i (touched s a n))
-      (noted s read_binding i a n (Read_from (span (source l.notes) a n)) l)
+      (noted s read_binding i a n (ReadFrom (span (source l.notes) a n)) l)
   unfolding noted writer wrote_in written marks
   read_done {i} {a} {n} ok below =
       let os = span (source l.notes) a n in

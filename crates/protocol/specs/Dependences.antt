@@ -3,17 +3,17 @@
 -- ledger.
 use Rattle.std.specs.Prelude.{ℕ, ◌+◌, ◌*◌, ◌/◌, Bool, true, false, ◌&&◌, ◌||◌, not, cond, List, [], ◌∷◌, eqb, length}
 use Rattle.boards.specs.Lists.{any, every}
-use Rattle.protocol.specs.Ledger.{Access, Wrote, Read_from, Note, is_pending, covers}
+use Rattle.protocol.specs.Ledger.{Access, Wrote, ReadFrom, Note, is_pending, covers}
 use Rattle.protocol.specs.declared.Shape.{Shape}
 
 -- how many cells an access has; whether it is a write
 unfoldable pub width : Access → ℕ
 width (Wrote bytes) = length bytes
-width (Read_from sources) = length sources
+width (ReadFrom sources) = length sources
 
 unfoldable pub is_write : Access → Bool
 is_write (Wrote bytes) = true
-is_write (Read_from sources) = false
+is_write (ReadFrom sources) = false
 
 -- whether p holds of the block of one of a note's cells
 unfoldable pub in_blocks : Shape → Note → (ℕ → Bool) → Bool

@@ -22,7 +22,7 @@ pub data Fate : Type 0 where
 -- not undone, if there is one.
 pub data Access : Type 0 where
   Wrote : List ℕ → Access
-  Read_from : List (Option ℕ) → Access
+  ReadFrom : List (Option ℕ) → Access
 
 pub record Note : Type 0 where
   pub board : ℕ
@@ -68,12 +68,12 @@ not_undone undone = false
 -- the bytes that a note wrote: none for a read
 unfoldable pub written : Access → List ℕ
 written (Wrote bytes) = bytes
-written (Read_from sources) = []
+written (ReadFrom sources) = []
 
 -- the writes that a note is noted with: none for a write
 unfoldable pub sources_of : Access → List (Option ℕ)
 sources_of (Wrote bytes) = []
-sources_of (Read_from sources) = sources
+sources_of (ReadFrom sources) = sources
 
 -- a note wrote cell a; what it wrote there, if it did
 unfoldable pub covers : Note → ℕ → Bool
@@ -231,7 +231,7 @@ commit_effect s PowerUp k l = l
 
 unfoldable pub effect : Shape → Request → ℕ → Ledger → Ledger
 effect s (Read who a n room) k l =
-    noted s read_binding (board_of s who) a n (Read_from (span (source l.notes) a n)) l
+    noted s read_binding (board_of s who) a n (ReadFrom (span (source l.notes) a n)) l
 effect s (Write who a bytes) k l =
     let n = length bytes in
     noted s (write_binding s a n) (board_of s who) a n (Wrote bytes) l

@@ -87,8 +87,8 @@ overflow_cast-board c =
     × EntryPassed c.args.image.now c.args.state i c.in-Taken.s = if_taken c.enter_by-entry.ensures c.in-Taken.is in
     -- the board is one of sixteen
     let board_small : c.board_of-board.result < 16 =
-        let passed = (known).1 in
-        subst (λ i. i < 16) (same_board c.args.who passed.shaped c.board_of-board.ensures) (small passed) in
+    let passed = (known).1 in
+    subst (λ i. i < 16) (same_board c.args.who passed.shaped c.board_of-board.ensures) (small passed) in
     omega (arith, board_small)
 
 pub locate-p-requires : goal.locate-p-requires
@@ -123,8 +123,8 @@ returns-then-p-s c =
     ∷ test (ltb c.in-Taken.s.boards c.locate-p.result.last.tag) 11
     ∷ test (has (engaged c.args.state) (board_of c.in-Taken.s c.args.who)) 13
     ∷ []) =
-        read_rest c.args.who _ _ _ (known) (ok) (within_limit) c.if-n-room.false
-        c.locate-p.ensures in
+    read_rest c.args.who _ _ _ (known) (ok) (within_limit) c.if-n-room.false
+    c.locate-p.ensures in
     refused (rest ∙ first_held 11 _ (lt-ltb _ _ c.if-p-s.true)) (λ z. omega arith)
 
 pub returns-then-p-s-2 : goal.returns-then-p-s-2
@@ -147,8 +147,8 @@ returns-then-p-s-2 c =
     ∷ test (ltb c.in-Taken.s.boards c.locate-p.result.last.tag) 11
     ∷ test (has (engaged c.args.state) (board_of c.in-Taken.s c.args.who)) 13
     ∷ []) =
-        read_rest c.args.who _ _ _ (known) (ok) (within_limit) c.if-n-room.false
-        c.locate-p.ensures in
+    read_rest c.args.who _ _ _ (known) (ok) (within_limit) c.if-n-room.false
+    c.locate-p.ensures in
     -- the first block's tag is in order
     let second : refusal_at c.args.image.now c.args.state (Read c.args.who c.args.cell c.args.n c.args.room)
     ≡ first
@@ -167,8 +167,8 @@ has-requires c =
     × EntryPassed c.args.image.now c.args.state i c.in-Taken.s = if_taken c.enter_by-entry.ensures c.in-Taken.is in
     -- the board is one of sixteen
     let board_small : c.board_of-board.result < 16 =
-        let passed = (known).1 in
-        subst (λ i. i < 16) (same_board c.args.who passed.shaped c.board_of-board.ensures) (small passed) in
+    let passed = (known).1 in
+    subst (λ i. i < 16) (same_board c.args.who passed.shaped c.board_of-board.ensures) (small passed) in
     board_small
 
 pub returns-then-has : goal.returns-then-has
@@ -191,8 +191,8 @@ returns-then-has c =
     ∷ test (ltb c.in-Taken.s.boards c.locate-p.result.last.tag) 11
     ∷ test (has (engaged c.args.state) (board_of c.in-Taken.s c.args.who)) 13
     ∷ []) =
-        read_rest c.args.who _ _ _ (known) (ok) (within_limit) c.if-n-room.false
-        c.locate-p.ensures in
+    read_rest c.args.who _ _ _ (known) (ok) (within_limit) c.if-n-room.false
+    c.locate-p.ensures in
     -- the first block's tag is in order
     let second : refusal_at c.args.image.now c.args.state (Read c.args.who c.args.cell c.args.n c.args.room)
     ≡ first
@@ -203,14 +203,14 @@ returns-then-has c =
     let last : (refusal_at c.args.image.now c.args.state (Read c.args.who c.args.cell c.args.n c.args.room)
     ≡ first (test c.has.result 13 ∷ []))
     × Placed c.args.image.now c.args.state c.args.who c.args.cell c.args.n c.args.room c.locate-p.result =
-        let passed = known in
-        let member = c.has.ensures ∙ ap (λ g. has g c.board_of-board.result) c.engaged-members.ensures
-        ∙ ap (has _) c.board_of-board.ensures in (
-          second ∙ first_passed 11 _ (le-ltb _ c.locate-p.result.last.tag (omega (arith, c.if-p-s-2.false)))
-              ∙ ap (λ b. first (test b 13 ∷ [])) (sym member),
-          placed _ c.board_of-board.ensures c.locate-p.ensures passed.1 (ok) c.if-n-room.false
-              c.if-p-s.false c.if-p-s-2.false,
-        ) in
+    let passed = known in
+    let member = c.has.ensures ∙ ap (λ g. has g c.board_of-board.result) c.engaged-members.ensures
+    ∙ ap (has _) c.board_of-board.ensures in (
+      second ∙ first_passed 11 _ (le-ltb _ c.locate-p.result.last.tag (omega (arith, c.if-p-s-2.false)))
+          ∙ ap (λ b. first (test b 13 ∷ [])) (sym member),
+      placed _ c.board_of-board.ensures c.locate-p.ensures passed.1 (ok) c.if-n-room.false
+          c.if-p-s.false c.if-p-s-2.false,
+    ) in
     refused ((last).0 ∙ first_held 13 [] c.if-has.true) (λ z. omega arith)
 
 pub returns : goal.returns
@@ -234,30 +234,30 @@ returns c =
     ∷ test (ltb c.in-Taken.s.boards c.locate-p.result.last.tag) 11
     ∷ test (has (engaged c.args.state) (board_of c.in-Taken.s c.args.who)) 13
     ∷ []) =
-        read_rest c.args.who _ _ _ (known) (ok) (within_limit) c.if-n-room.false
-        c.locate-p.ensures in
+    read_rest c.args.who _ _ _ (known) (ok) (within_limit) c.if-n-room.false
+    c.locate-p.ensures in
     -- the first block's tag is in order
     let second : refusal_at c.args.image.now c.args.state (Read c.args.who c.args.cell c.args.n c.args.room)
     ≡ first
     (test (ltb c.in-Taken.s.boards c.locate-p.result.last.tag) 11
     ∷ test (has (engaged c.args.state) (board_of c.in-Taken.s c.args.who)) 13
     ∷ []) =
-        rest
-        ∙ first_passed 11
-        (test (ltb c.in-Taken.s.boards c.locate-p.result.last.tag) 11
-        ∷ test (has (engaged c.args.state) (board_of c.in-Taken.s c.args.who)) 13
-        ∷ []) (le-ltb _ _ c.if-p-s.false) in
+    rest
+    ∙ first_passed 11
+    (test (ltb c.in-Taken.s.boards c.locate-p.result.last.tag) 11
+    ∷ test (has (engaged c.args.state) (board_of c.in-Taken.s c.args.who)) 13
+    ∷ []) (le-ltb _ _ c.if-p-s.false) in
     -- all tests but 13 are passed: the answer of `has` decides, and the place is known
     let last : (refusal_at c.args.image.now c.args.state (Read c.args.who c.args.cell c.args.n c.args.room)
     ≡ first (test c.has.result 13 ∷ []))
     × Placed c.args.image.now c.args.state c.args.who c.args.cell c.args.n c.args.room c.locate-p.result =
-        let passed = known in
-        let member = c.has.ensures ∙ ap (λ g. has g c.board_of-board.result) c.engaged-members.ensures
-        ∙ ap (has _) c.board_of-board.ensures in (
-          second ∙ first_passed 11 (test (has (engaged c.args.state) (board_of c.in-Taken.s c.args.who)) 13 ∷ [])
+    let passed = known in
+    let member = c.has.ensures ∙ ap (λ g. has g c.board_of-board.result) c.engaged-members.ensures
+    ∙ ap (has _) c.board_of-board.ensures in (
+      second ∙ first_passed 11 (test (has (engaged c.args.state) (board_of c.in-Taken.s c.args.who)) 13 ∷ [])
           (le-ltb _ c.locate-p.result.last.tag (omega (arith, c.if-p-s-2.false)))
-              ∙ ap (λ b. first (test b 13 ∷ [])) (sym member),
-          placed _ c.board_of-board.ensures c.locate-p.ensures passed.1 (ok) c.if-n-room.false
-              c.if-p-s.false c.if-p-s-2.false,
-        ) in
+          ∙ ap (λ b. first (test b 13 ∷ [])) (sym member),
+      placed _ c.board_of-board.ensures c.locate-p.ensures passed.1 (ok) c.if-n-room.false
+          c.if-p-s.false c.if-p-s-2.false,
+    ) in
     passed ((last).0 ∙ first_passed 13 [] c.if-has.false) (last).1

@@ -28,12 +28,12 @@ returns-then-tagged_in c =
     (refusal_at c.args.image.now c.args.state (Write c.args.who c.args.cell c.args.bytes.now)
     ≡ first (test (tagged_in g c.in-Taken.p.first.tag) 13 ∷ test (tagged_in g c.in-Taken.p.last.tag) 13 ∷ []))
     × Placed c.args.image.now c.args.state c.args.who c.args.cell n n c.in-Taken.p =
-        let known = if_admitted c.admit-admission.ensures c.in-Taken.is in
-        (write_last _ _ _ _ c.args.bytes.now known.0 known.1, known.1) in
+    let known = if_admitted c.admit-admission.ensures c.in-Taken.is in
+    (write_last _ _ _ _ c.args.bytes.now known.0 known.1, known.1) in
     -- what `tagged_in` answered of the first block, and of the last
     let first_tag : let g = engaged c.args.state in
     tagged_in g c.in-Taken.p.first.tag ≡ c.tagged_in.result =
-        sym (c.tagged_in.ensures ∙ ap (λ g. tagged_in g c.in-Taken.p.first.tag) c.engaged-members.ensures) in
+    sym (c.tagged_in.ensures ∙ ap (λ g. tagged_in g c.in-Taken.p.first.tag) c.engaged-members.ensures) in
     refused ((rest).0 ∙ first_held 13 _ (first_tag ∙ c.if-tagged_in.true))
     (λ z. omega arith)
 
@@ -45,18 +45,18 @@ returns-then-tagged_in-2 c =
     (refusal_at c.args.image.now c.args.state (Write c.args.who c.args.cell c.args.bytes.now)
     ≡ first (test (tagged_in g c.in-Taken.p.first.tag) 13 ∷ test (tagged_in g c.in-Taken.p.last.tag) 13 ∷ []))
     × Placed c.args.image.now c.args.state c.args.who c.args.cell n n c.in-Taken.p =
-        let known = if_admitted c.admit-admission.ensures c.in-Taken.is in
-        (write_last _ _ _ _ c.args.bytes.now known.0 known.1, known.1) in
+    let known = if_admitted c.admit-admission.ensures c.in-Taken.is in
+    (write_last _ _ _ _ c.args.bytes.now known.0 known.1, known.1) in
     -- what `tagged_in` answered of the first block, and of the last
     let first_tag : let g = engaged c.args.state in
     tagged_in g c.in-Taken.p.first.tag ≡ c.tagged_in.result =
-        sym (c.tagged_in.ensures ∙ ap (λ g. tagged_in g c.in-Taken.p.first.tag) c.engaged-members.ensures) in
+    sym (c.tagged_in.ensures ∙ ap (λ g. tagged_in g c.in-Taken.p.first.tag) c.engaged-members.ensures) in
     let second : refusal_at c.args.image.now c.args.state (Write c.args.who c.args.cell c.args.bytes.now)
     ≡ first (test c.tagged_in-2.result 13 ∷ []) =
-        let last_tag = c.tagged_in-2.ensures ∙ ap (λ g. tagged_in g c.in-Taken.p.last.tag) c.engaged-members.ensures in
-        (rest).0
-        ∙ first_passed 13 _ (first_tag ∙ c.if-tagged_in.false)
-        ∙ ap (λ b. first (test b 13 ∷ [])) (sym last_tag) in
+    let last_tag = c.tagged_in-2.ensures ∙ ap (λ g. tagged_in g c.in-Taken.p.last.tag) c.engaged-members.ensures in
+    (rest).0
+    ∙ first_passed 13 _ (first_tag ∙ c.if-tagged_in.false)
+    ∙ ap (λ b. first (test b 13 ∷ [])) (sym last_tag) in
     refused (second ∙ first_held 13 [] c.if-tagged_in-2.true) (λ z. omega arith)
 
 pub returns : goal.returns
@@ -68,17 +68,17 @@ returns c =
     (refusal_at c.args.image.now c.args.state (Write c.args.who c.args.cell c.args.bytes.now)
     ≡ first (test (tagged_in g c.in-Taken.p.first.tag) 13 ∷ test (tagged_in g c.in-Taken.p.last.tag) 13 ∷ []))
     × Placed c.args.image.now c.args.state c.args.who c.args.cell n n c.in-Taken.p =
-        let known = if_admitted c.admit-admission.ensures c.in-Taken.is in
-        (write_last _ _ _ _ c.args.bytes.now known.0 known.1, known.1) in
+    let known = if_admitted c.admit-admission.ensures c.in-Taken.is in
+    (write_last _ _ _ _ c.args.bytes.now known.0 known.1, known.1) in
     -- what `tagged_in` answered of the first block, and of the last
     let first_tag : let g = engaged c.args.state in
     tagged_in g c.in-Taken.p.first.tag ≡ c.tagged_in.result =
-        sym (c.tagged_in.ensures ∙ ap (λ g. tagged_in g c.in-Taken.p.first.tag) c.engaged-members.ensures) in
+    sym (c.tagged_in.ensures ∙ ap (λ g. tagged_in g c.in-Taken.p.first.tag) c.engaged-members.ensures) in
     let second : refusal_at c.args.image.now c.args.state (Write c.args.who c.args.cell c.args.bytes.now)
     ≡ first (test c.tagged_in-2.result 13 ∷ []) =
-        let last_tag = c.tagged_in-2.ensures ∙ ap (λ g. tagged_in g c.in-Taken.p.last.tag) c.engaged-members.ensures in
-        (rest).0
-        ∙ first_passed 13 (test (tagged_in (engaged c.args.state) c.in-Taken.p.last.tag) 13 ∷ [])
-        (first_tag ∙ c.if-tagged_in.false)
-        ∙ ap (λ b. first (test b 13 ∷ [])) (sym last_tag) in
+    let last_tag = c.tagged_in-2.ensures ∙ ap (λ g. tagged_in g c.in-Taken.p.last.tag) c.engaged-members.ensures in
+    (rest).0
+    ∙ first_passed 13 (test (tagged_in (engaged c.args.state) c.in-Taken.p.last.tag) 13 ∷ [])
+    (first_tag ∙ c.if-tagged_in.false)
+    ∙ ap (λ b. first (test b 13 ∷ [])) (sym last_tag) in
     passed (second ∙ first_passed 13 [] c.if-tagged_in-2.false) (rest).1

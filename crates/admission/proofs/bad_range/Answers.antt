@@ -23,14 +23,14 @@ pub overflow_sub-result : goal.overflow_sub-result
 overflow_sub-result c =
     -- as few cells as a block has are no more than there are in all
     let few : c.args.n ≤ cells c.args.s =
-        let size = bounded c.requires in
-        omega (arith, c.if-n-size.false, row_fits c.args.s.size c.args.s.blocks 0 (omega (arith, size))) in
+    let size = bounded c.requires in
+    omega (arith, c.if-n-size.false, row_fits c.args.s.size c.args.s.blocks 0 (omega (arith, size))) in
     omega (arith, few)
 
 pub returns : goal.returns
 returns c =
     -- as few cells as a block has are no more than there are in all
     let few : c.args.n ≤ cells c.args.s =
-        let size = bounded c.requires in
-        omega (arith, c.if-n-size.false, row_fits c.args.s.size c.args.s.blocks 0 (omega (arith, size))) in
+    let size = bounded c.requires in
+    omega (arith, c.if-n-size.false, row_fits c.args.s.size c.args.s.blocks 0 (omega (arith, size))) in
     range_end c.args.s c.args.cell c.args.n c.if-n-eq0.false c.if-n-size.false (few)

@@ -9,9 +9,11 @@ use Rattle.blocks.proofs.Composite.{completes}
 use Rattle.blocks.proofs.complete.Goals as goal
 
 pub copy_contexts-kept-requires : goal.copy_contexts-kept-requires
-copy_contexts-kept-requires c =
-    (c.requires.0, puts_length c.copy_blocks-saved.ensures ∙ c.requires.1,
-    puts_well c.copy_blocks-saved.ensures c.requires.2)
+copy_contexts-kept-requires c = (
+  c.requires.0,
+  puts_length c.copy_blocks-saved.ensures ∙ c.requires.1,
+  puts_well c.copy_blocks-saved.ensures c.requires.2,
+)
 
 pub store-requires : goal.store-requires
 unfolding total

@@ -18,8 +18,12 @@ unfolding total
 bounds-image-i c = omega arith
 
 pub returns-then-image-i-ne0 : goal.returns-then-image-i-ne0
-returns-then-image-i-ne0 c = (c.loop-i.invariant.0, c.loop-i.invariant.1, c.loop-i.invariant.2,
-    inr c.if-image-i-ne0.true)
+returns-then-image-i-ne0 c = (
+  c.loop-i.invariant.0,
+  c.loop-i.invariant.1,
+  c.loop-i.invariant.2,
+  inr c.if-image-i-ne0.true,
+)
 
 pub loop-i-preserved : goal.loop-i-preserved
 loop-i-preserved c = (

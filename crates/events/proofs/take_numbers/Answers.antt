@@ -15,9 +15,10 @@ returns-in_default c =
 
 pub returns-then-values-line : goal.returns-then-values-line
 unfolding meant counted
-returns-then-values-line c =
-    (λ b. sym (numbers_more _ c.requires.0 c.requires.1 c.in-All.is c.read_numbers.ensures c.if-values-line.true),
-    omega arith)
+returns-then-values-line c = (
+  λ b. sym (numbers_more _ c.requires.0 c.requires.1 c.in-All.is c.read_numbers.ensures c.if-values-line.true),
+  omega arith,
+)
 
 pub returns : goal.returns
 returns c =

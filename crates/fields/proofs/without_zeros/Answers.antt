@@ -28,5 +28,8 @@ pub returns : goal.returns
 unfolding measured
 returns c =
     let first = first_of c.args.s.now (omega arith) in
-    rw (number_whole (before c.args.s.now) (omega arith) (λ l e. c.if-s-eq48.false (sym first ∙ e)), c.requires.1,
-    ← c.requires.0)
+    rw (
+      number_whole (before c.args.s.now) (omega arith) (λ l e. c.if-s-eq48.false (sym first ∙ e)),
+      c.requires.1,
+      ← c.requires.0,
+    )

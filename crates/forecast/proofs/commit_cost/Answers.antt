@@ -17,14 +17,14 @@ overflow_add-result c =
     -- what the sums are made of
     let few : (c.blocks_cost-blocks.result ≤ 66560)
     × (c.member_count.result * c.args.s.context ≤ 1024) =
-        let contexts = ap (λ n. n * c.args.s.context) c.member_count.ensures in (
-          omega (
-            arith,
-            c.blocks_cost-blocks.ensures,
-            most_blocks c.args.s c.requires.0 c.args.g (view c.args.s c.args.image.now),
-          ),
-          omega (arith, contexts, most_contexts c.args.s c.requires.0 c.args.g),
-        ) in
+    let contexts = ap (λ n. n * c.args.s.context) c.member_count.ensures in (
+      omega (
+        arith,
+        c.blocks_cost-blocks.ensures,
+        most_blocks c.args.s c.requires.0 c.args.g (view c.args.s c.args.image.now),
+      ),
+      omega (arith, contexts, most_contexts c.args.s c.requires.0 c.args.g),
+    ) in
     omega (arith, few)
 
 pub overflow_add-result-2 : goal.overflow_add-result-2
@@ -32,14 +32,14 @@ overflow_add-result-2 c =
     -- what the sums are made of
     let few : (c.blocks_cost-blocks.result ≤ 66560)
     × (c.member_count.result * c.args.s.context ≤ 1024) =
-        let contexts = ap (λ n. n * c.args.s.context) c.member_count.ensures in (
-          omega (
-            arith,
-            c.blocks_cost-blocks.ensures,
-            most_blocks c.args.s c.requires.0 c.args.g (view c.args.s c.args.image.now),
-          ),
-          omega (arith, contexts, most_contexts c.args.s c.requires.0 c.args.g),
-        ) in
+    let contexts = ap (λ n. n * c.args.s.context) c.member_count.ensures in (
+      omega (
+        arith,
+        c.blocks_cost-blocks.ensures,
+        most_blocks c.args.s c.requires.0 c.args.g (view c.args.s c.args.image.now),
+      ),
+      omega (arith, contexts, most_contexts c.args.s c.requires.0 c.args.g),
+    ) in
     omega (arith, few)
 
 pub overflow_add-result-3 : goal.overflow_add-result-3
@@ -47,14 +47,14 @@ overflow_add-result-3 c =
     -- what the sums are made of
     let few : (c.blocks_cost-blocks.result ≤ 66560)
     × (c.member_count.result * c.args.s.context ≤ 1024) =
-        let contexts = ap (λ n. n * c.args.s.context) c.member_count.ensures in (
-          omega (
-            arith,
-            c.blocks_cost-blocks.ensures,
-            most_blocks c.args.s c.requires.0 c.args.g (view c.args.s c.args.image.now),
-          ),
-          omega (arith, contexts, most_contexts c.args.s c.requires.0 c.args.g),
-        ) in
+    let contexts = ap (λ n. n * c.args.s.context) c.member_count.ensures in (
+      omega (
+        arith,
+        c.blocks_cost-blocks.ensures,
+        most_blocks c.args.s c.requires.0 c.args.g (view c.args.s c.args.image.now),
+      ),
+      omega (arith, contexts, most_contexts c.args.s c.requires.0 c.args.g),
+    ) in
     omega (arith, few)
 
 pub returns : goal.returns

@@ -1,5 +1,4 @@
 -- `member_count` meets its contract: the members before i are counted.
-use Prim.Native.Nat.{◌-◌}
 use mathlib.Core.Path.{sym, ◌∙◌, ap}
 use native.Mathlib.Omega.{arith}
 use lib.ListN.{length}
@@ -27,12 +26,11 @@ pub overflow_add-i : goal.overflow_add-i
 overflow_add-i c = omega (arith, (bounded c.requires).limits)
 
 pub loop-i-preserved : goal.loop-i-preserved
-loop-i-preserved c =
-    (
-      omega arith,
-      one_more c.loop-i.i (has c.args.g) c.loop-i.invariant.1 c.has-member.ensures
-          c.counted-n.ensures,
-    )
+loop-i-preserved c = (
+  omega arith,
+  one_more c.loop-i.i (has c.args.g) c.loop-i.invariant.1 c.has-member.ensures
+      c.counted-n.ensures,
+)
 
 pub returns : goal.returns
 unfolding boards_of

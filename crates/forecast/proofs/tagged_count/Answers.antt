@@ -1,5 +1,4 @@
 -- `tagged_count` meets its contract: the blocks before b that a board of the group tagged are counted.
-use Prim.Native.Nat.{◌-◌}
 use mathlib.Core.Path.{sym, ◌∙◌, ap}
 use native.Mathlib.Omega.{arith}
 use lib.ListN.{length}
@@ -16,13 +15,12 @@ pub next_tagged-b-requires : goal.next_tagged-b-requires
 next_tagged-b-requires c = (c.requires.0, c.requires.1, omega arith)
 
 pub loop-b-init : goal.loop-b-init
-loop-b-init c =
-    (
-      c.next_tagged-b.ensures.1,
-      sym (those_none (chosen c.args.image.now c.args.s c.args.g))
-          ∙ untagged_passed c.args.image.now c.args.s c.args.g 0 c.next_tagged-b.result c.next_tagged-b.ensures.0
-          c.next_tagged-b.ensures.1 c.next_tagged-b.ensures.2,
-    )
+loop-b-init c = (
+  c.next_tagged-b.ensures.1,
+  sym (those_none (chosen c.args.image.now c.args.s c.args.g))
+      ∙ untagged_passed c.args.image.now c.args.s c.args.g 0 c.next_tagged-b.result c.next_tagged-b.ensures.0
+      c.next_tagged-b.ensures.1 c.next_tagged-b.ensures.2,
+)
 
 pub overflow_add-tag : goal.overflow_add-tag
 overflow_add-tag c = omega (arith, (bounded c.requires.0).limits)
@@ -55,10 +53,12 @@ unfolding base size
 loop-b-preserved c =
     let seen = view_at c.args.s c.args.image.now Tags c.loop-b.b (omega arith) in
     let one = one_more c.loop-b.b (chosen c.args.image.now c.args.s c.args.g) c.loop-b.invariant.1
-    (c.tagged_in-chosen.ensures ∙ ap (tagged_in c.args.g) (sym seen)) c.counted-n.ensures in
-    (c.next_tagged-b-in-loop-b.ensures.1, one ∙ untagged_passed c.args.image.now c.args.s c.args.g _
-    c.next_tagged-b-in-loop-b.result c.next_tagged-b-in-loop-b.ensures.0 c.next_tagged-b-in-loop-b.ensures.1
-    c.next_tagged-b-in-loop-b.ensures.2)
+    (c.tagged_in-chosen.ensures ∙ ap (tagged_in c.args.g) (sym seen)) c.counted-n.ensures in (
+      c.next_tagged-b-in-loop-b.ensures.1,
+      one ∙ untagged_passed c.args.image.now c.args.s c.args.g _
+          c.next_tagged-b-in-loop-b.result c.next_tagged-b-in-loop-b.ensures.0 c.next_tagged-b-in-loop-b.ensures.1
+          c.next_tagged-b-in-loop-b.ensures.2,
+    )
 
 pub returns : goal.returns
 unfolding tagged_blocks

@@ -21,11 +21,19 @@ returns-then-c-lt65 c =
 pub returns-then-c-le70 : goal.returns-then-c-le70
 unfolding digit
 returns-then-c-le70 c =
-    rw (le-leb 48 c.args.c (omega arith), lt-leb c.args.c 57 (omega arith), le-leb 65 c.args.c (omega arith),
-    le-leb c.args.c 70 (omega arith))
+    rw (
+      le-leb 48 c.args.c (omega arith),
+      lt-leb c.args.c 57 (omega arith),
+      le-leb 65 c.args.c (omega arith),
+      le-leb c.args.c 70 (omega arith),
+    )
 
 pub returns : goal.returns
 unfolding digit
 returns c =
-    rw (le-leb 48 c.args.c (omega arith), lt-leb c.args.c 57 (omega arith), le-leb 65 c.args.c (omega arith),
-    lt-leb c.args.c 70 (omega arith))
+    rw (
+      le-leb 48 c.args.c (omega arith),
+      lt-leb c.args.c 57 (omega arith),
+      le-leb 65 c.args.c (omega arith),
+      lt-leb c.args.c 70 (omega arith),
+    )

@@ -1,5 +1,5 @@
 -- `order_from` meets its contract: the next component, and then those of the boards that are still left.
-use Prim.Native.Nat.{ℕ, ◌≤◌, ◌<◌, ◌^◌}
+use Prim.Native.Nat.{◌<◌}
 use mathlib.Core.Path.{◌≡◌, refl, subst}
 use lib.ListN.{length, length-set}
 use native.Mathlib.Omega.{arith}
@@ -19,18 +19,18 @@ returns-then-left-eq0 t c =
 pub bounds-masks-at : goal.bounds-masks-at
 bounds-masks-at t c =
     let bounded : Bounded 16 (links_of c.args.rows) =
-        rows_bounded (record { long = search rules; small = λ a. search rules }) in
+    rows_bounded (record { long = search rules; small = λ a. search rules }) in
     let some : 0 < c.args.left = omega (arith, c.if-left-eq0.false) in
     let rest = minus c.args.left c.next_component-own.result in
     let same : rest ≡ minus c.args.left c.next_component-own.result = refl in
     let fewer : count 16 (has rest) < count 16 (has c.args.left) =
-        others_fewer bounded c.ranges.left.fits some c.requires.0 c.next_component-own.ensures same in
+    others_fewer bounded c.ranges.left.fits some c.requires.0 c.next_component-own.ensures same in
     omega (arith, fewer, c.requires.1)
 
 pub order_from-requires : goal.order_from-requires
 order_from-requires t c =
     let bounded : Bounded 16 (links_of c.args.rows) =
-        rows_bounded (record { long = search rules; small = λ a. search rules }) in
+    rows_bounded (record { long = search rules; small = λ a. search rules }) in
     let some : 0 < c.args.left = omega (arith, c.if-left-eq0.false) in
     let found = c.next_component-own.ensures in
     let less = others_fewer bounded c.ranges.left.fits some c.requires.0 found c.minus-others.ensures in
@@ -45,7 +45,7 @@ order_from-requires t c =
 pub returns : goal.returns
 returns t c =
     let bounded : Bounded 16 (links_of c.args.rows) =
-        rows_bounded (record { long = search rules; small = λ a. search rules }) in
+    rows_bounded (record { long = search rules; small = λ a. search rules }) in
     let some : 0 < c.args.left = omega (arith, c.if-left-eq0.false) in
     let found = c.next_component-own.ensures in
     let less = others_fewer bounded c.ranges.left.fits some c.requires.0 found c.minus-others.ensures in

@@ -13,7 +13,7 @@ pub returns-then-intersection-own : goal.returns-then-intersection-own
 returns-then-intersection-own c =
     let members = c.commit_closure-needed.ensures.members in
     let own = c.intersection-own.ensures ∙ ap (intersection c.commit_closure-needed.result.members)
-        c.fault_closure-dependents.ensures.members in
+    c.fault_closure-dependents.ensures.members in
     not_ready (links_of c.args.rows) c.args.left c.args.i members own c.intersection.ensures
     c.if-intersection-own.true
 
@@ -21,6 +21,6 @@ pub returns : goal.returns
 returns c =
     let members = c.commit_closure-needed.ensures.members in
     let own = c.intersection-own.ensures ∙ ap (intersection c.commit_closure-needed.result.members)
-        c.fault_closure-dependents.ensures.members in
+    c.fault_closure-dependents.ensures.members in
     is_ready (links_of c.args.rows) c.args.left c.args.i members own c.intersection.ensures
     (sym c.has.ensures ∙ c.if-not-has.false) c.if-intersection-own.false

@@ -1,8 +1,7 @@
 -- `move_down` meets its contract: i bytes are moved, and those from i on are as they were.
-use Prim.Native.Nat.{◌-◌}
 use mathlib.Core.Path.{◌≡◌, refl, sym, ◌∙◌}
 use native.Mathlib.Omega.{arith}
-use lib.ListN.{length, length-set}
+use lib.ListN.{length-set}
 use Rattle.pieces.proofs.Pieces.{moved_more}
 use Rattle.pieces.proofs.move_down.Goals as goal
 

@@ -11,7 +11,8 @@ pub returns : goal.returns
 unfolding middle_text flag_text
 returns c =
     let flag : c.if-decided.flag ≡ flag_text c.args.decided =
-        elim c.if-decided.branch
-        [ then-decided w ↦ w.flag-is ∙ sym (if_true 49 48 w.if-decided.true)
-        | else-decided w ↦ w.flag-is ∙ sym (if_false 49 48 w.if-decided.false) ] in
+    elim c.if-decided.branch [
+      | then-decided w ↦ w.flag-is ∙ sym (if_true 49 48 w.if-decided.true)
+      | else-decided w ↦ w.flag-is ∙ sym (if_false 49 48 w.if-decided.false)
+    ] in
     rw (← flag) (appends_then c.put_between-a.ensures c.put_group.ensures)

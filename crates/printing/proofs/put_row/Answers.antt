@@ -10,9 +10,11 @@ put_middle-b-requires c =
 
 pub put_tail-requires : goal.put_tail-requires
 put_tail-requires c =
-    omega
-    (arith, length_head c.args.number c.args.letter c.args.answer.status,
-    length_middle c.args.answer.decided c.args.answer.group)
+    omega (
+      arith,
+      length_head c.args.number c.args.letter c.args.answer.status,
+      length_middle c.args.answer.decided c.args.answer.group,
+    )
 
 pub returns : goal.returns
 returns c =

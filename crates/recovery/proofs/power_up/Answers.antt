@@ -36,9 +36,11 @@ copy_blocks-done-requires c =
     let known : (first (power_tests c.args.image.now (shape_of c.args.image.now)
     (view (shape_of c.args.image.now) c.args.image.now)) ≡ 0)
     × Recoverable c.args.image.now c.in-Taken.s = if_taken c.power_entry-entry.ensures c.in-Taken.is in
-    let shaped = (known).1.shaped in
-    (shaped.allowed_shape, puts_length c.complete_first-first.ensures ∙ shaped.long,
-    puts_well c.complete_first-first.ensures (well_start c.new-whole.ensures))
+    let shaped = (known).1.shaped in (
+      shaped.allowed_shape,
+      puts_length c.complete_first-first.ensures ∙ shaped.long,
+      puts_well c.complete_first-first.ensures (well_start c.new-whole.ensures),
+    )
 
 pub finish-requires : goal.finish-requires
 finish-requires c =

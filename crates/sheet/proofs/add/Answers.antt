@@ -12,8 +12,12 @@ returns-then-t-ge-MOST_COMMITS c =
     rw (le-ltb c.args.t.commits most_commits (omega (arith, c.if-t-ge-MOST_COMMITS.true)), add-one c.args.t.commits) (
       refl,
       refl,
-      record { commits = omega arith; blocks = omega (arith, c.requires.0.blocks); bytes =
-      omega (arith, c.requires.0.bytes) },
+      record {
+        commits = omega arith;
+        blocks = omega (arith, c.requires.0.blocks);
+        bytes =
+            omega (arith, c.requires.0.bytes);
+      },
     )
 
 pub returns : goal.returns
@@ -23,6 +27,10 @@ returns c =
     rw (less, add-one c.args.t.commits) (
       refl,
       refl,
-      record { commits = omega arith; blocks = omega (arith, c.requires.0.blocks); bytes =
-      omega (arith, c.requires.0.bytes) },
+      record {
+        commits = omega arith;
+        blocks = omega (arith, c.requires.0.blocks);
+        bytes =
+            omega (arith, c.requires.0.bytes);
+      },
     )

@@ -17,20 +17,19 @@ put-c-requires c =
     )
 
 pub put_padded-d-requires : goal.put_padded-d-requires
-put_padded-d-requires c =
-    (
-      omega arith,
-      omega (
-        arith,
-        c.put-a.ensures.place,
-        c.put-a.auto.out,
-        c.put_padded-b.ensures.place,
-        c.put_padded-b.auto.out,
-        length_padded 8 c.args.blocks,
-        c.put-c.ensures.place,
-        c.put-c.auto.out,
-      ),
-    )
+put_padded-d-requires c = (
+  omega arith,
+  omega (
+    arith,
+    c.put-a.ensures.place,
+    c.put-a.auto.out,
+    c.put_padded-b.ensures.place,
+    c.put_padded-b.auto.out,
+    length_padded 8 c.args.blocks,
+    c.put-c.ensures.place,
+    c.put-c.auto.out,
+  ),
+)
 
 pub put-requires : goal.put-requires
 put-requires c =

@@ -1,8 +1,6 @@
 -- `put_text` meets its contract: after i rounds the first i characters are written.
-use Prim.Native.Nat.{◌-◌}
 use native.Mathlib.Omega.{arith}
 use native.Mathlib.Numerals.{add-one}
-use lib.ListN.{length, take}
 use lib.Seq.{take_all, take-suc, length-take-le}
 use Rattle.digits.proofs.Laws.{appends_none, appends_then, appends_length}
 use Rattle.sheet.proofs.put_text.Goals as goal
