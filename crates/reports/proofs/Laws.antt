@@ -10,14 +10,13 @@ use lib.ListN.{length}
 use borrow.Author.Tests.{lt-ltb, le-ltb, ltb-true, leb-true, eq-eqb, ne_eqb}
 use Rattle.boards.proofs.Basics.{and_true, false_and}
 use Rattle.text.specs.Events.{Event, taken}
-use Rattle.text.specs.Turns.{play}
 use Rattle.text.specs.Whole.{Line, Step, Goes, Ends, Program, continued, output_by, Run as Whole, most_lines, line_rows}
 use Rattle.text.specs.Whole.{line_text, next_run, line_step, rsmrun}
 use Rattle.digits.specs.Append.{Appends}
 use Rattle.digits.proofs.Laws.{appends_none}
 use Rattle.page.specs.Saving.{decided_by}
 use Rattle.page.specs.Columns.{commit_line}
-use Rattle.page.specs.Page.{full_status, added, totals_after, decided_text, Page, page_goes, page_step, rsmpage}
+use Rattle.page.specs.Page.{full_status, added, totals_after, decided_text, page_goes, page_step, rsmpage}
 use Rattle.page.specs.declared.Saved.{Saved}
 use Rattle.page.specs.declared.Decided.{Decided}
 use Rattle.page.specs.declared.Decided.TheVariants.{Nothing, Commit}

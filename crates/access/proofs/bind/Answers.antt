@@ -28,7 +28,7 @@ depend-requires c =
     let named : c.args.tag ≡ suc c.in-Board.j = c.writer_of.ensures ∙ ap tag_of c.in-Board.is in
     -- both boards are below 16
     let both_small : (c.args.i < 16) × (c.in-Board.j < 16) =
-        (omega (arith, c.requires), omega (arith, c.requires, named)) in
+    (omega (arith, c.requires), omega (arith, c.requires, named)) in
     let both = both_small in (omega (arith, both), omega (arith, both))
 
 pub returns-in-OneWay : goal.returns-in-OneWay
@@ -39,8 +39,8 @@ returns-in-OneWay c =
     -- the board and another writer, whatever the kind of binding
     let other : (how : Binding) →
     bind_boards depend how c.args.state c.args.i c.in-Board.j
-    ≡ bind_tag depend how c.args.state c.args.i c.args.tag =     λ how.
-        bind_other how c.args.state c.args.i _ (named) c.if-i-j.false in
+    ≡ bind_tag depend how c.args.state c.args.i c.args.tag = λ how.
+    bind_other how c.args.state c.args.i _ (named) c.if-i-j.false in
     c.depend.ensures ∙ rw c.in-OneWay.is (other _)
 
 pub depend-forth-requires : goal.depend-forth-requires
@@ -49,7 +49,7 @@ depend-forth-requires c =
     let named : c.args.tag ≡ suc c.in-Board.j = c.writer_of.ensures ∙ ap tag_of c.in-Board.is in
     -- both boards are below 16
     let both_small : (c.args.i < 16) × (c.in-Board.j < 16) =
-        (omega (arith, c.requires), omega (arith, c.requires, named)) in
+    (omega (arith, c.requires), omega (arith, c.requires, named)) in
     let both = both_small in (omega (arith, both), omega (arith, both))
 
 pub depend-requires-2 : goal.depend-requires-2
@@ -58,7 +58,7 @@ depend-requires-2 c =
     let named : c.args.tag ≡ suc c.in-Board.j = c.writer_of.ensures ∙ ap tag_of c.in-Board.is in
     -- both boards are below 16
     let both_small : (c.args.i < 16) × (c.in-Board.j < 16) =
-        (omega (arith, c.requires), omega (arith, c.requires, named)) in
+    (omega (arith, c.requires), omega (arith, c.requires, named)) in
     let both = both_small in (omega (arith, both), omega (arith, both))
 
 -- the link back, after the one forth or by itself
@@ -70,10 +70,11 @@ returns c =
     -- the board and another writer, whatever the kind of binding
     let other : (how : Binding) →
     bind_boards depend how c.args.state c.args.i c.in-Board.j
-    ≡ bind_tag depend how c.args.state c.args.i c.args.tag =     λ how.
-        bind_other how c.args.state c.args.i _ (named) c.if-i-j.false in
+    ≡ bind_tag depend how c.args.state c.args.i c.args.tag = λ how.
+    bind_other how c.args.state c.args.i _ (named) c.if-i-j.false in
     let back : Record → Record = λ r. depend r c.in-Board.j c.args.i in
     c.depend-2.ensures
-    ∙ elim c.match-how.branch
-    [ in-TwoWay w ↦ ap back (w.forth-is ∙ w.depend-forth.ensures) ∙ rw w.in-TwoWay.is (other _)
-    | in-Opposite w ↦ ap back w.forth-is ∙ rw w.in-Opposite.is (other _) ]
+    ∙ elim c.match-how.branch [
+      | in-TwoWay w ↦ ap back (w.forth-is ∙ w.depend-forth.ensures) ∙ rw w.in-TwoWay.is (other _)
+      | in-Opposite w ↦ ap back w.forth-is ∙ rw w.in-Opposite.is (other _)
+    ]

@@ -47,7 +47,7 @@ returns-then-not-has c =
     if_taken c.begin-entry.ensures c.in-Taken.is in
     -- whether the board is a member, as the code found it
     let member : has (engaged c.args.state) c.args.board ≡ c.has.result =
-        sym (c.has.ensures ∙ ap (λ g. has g c.args.board) c.engaged-engaged.ensures) in
+    sym (c.has.ensures ∙ ap (λ g. has g c.args.board) c.engaged-engaged.ensures) in
     refused
     (acknowledge_other _ _ _ _ (known).0 (member ∙ c.if-not-has.true))
     (λ z. omega arith)
@@ -70,13 +70,13 @@ returns-then-has c =
     if_taken c.begin-entry.ensures c.in-Taken.is in
     -- whether the board is a member, as the code found it
     let member : has (engaged c.args.state) c.args.board ≡ c.has.result =
-        sym (c.has.ensures ∙ ap (λ g. has g c.args.board) c.engaged-engaged.ensures) in
+    sym (c.has.ensures ∙ ap (λ g. has g c.args.board) c.engaged-engaged.ensures) in
     -- all tests but 16 are passed: what the code found decides
     let last : refusal_at c.args.image.now c.args.state (Acknowledge c.args.board c.args.context.now)
     ≡ first (test c.has-2.result 16 ∷ []) =
-        let twice = c.has-2.ensures ∙ ap (λ o. has o.acknowledged c.args.board) c.commit_of-open.ensures in
-        acknowledge_last _ _ _ _ (known).0 (member ∙ c.if-not-has.false)
-        ∙ ap (λ b. first (test b 16 ∷ [])) (sym twice) in
+    let twice = c.has-2.ensures ∙ ap (λ o. has o.acknowledged c.args.board) c.commit_of-open.ensures in
+    acknowledge_last _ _ _ _ (known).0 (member ∙ c.if-not-has.false)
+    ∙ ap (λ b. first (test b 16 ∷ [])) (sym twice) in
     refused (last ∙ first_held 16 [] c.if-has.true) (λ z. omega arith)
 
 pub returns : goal.returns
@@ -89,12 +89,12 @@ returns c =
     if_taken c.begin-entry.ensures c.in-Taken.is in
     -- whether the board is a member, as the code found it
     let member : has (engaged c.args.state) c.args.board ≡ c.has.result =
-        sym (c.has.ensures ∙ ap (λ g. has g c.args.board) c.engaged-engaged.ensures) in
+    sym (c.has.ensures ∙ ap (λ g. has g c.args.board) c.engaged-engaged.ensures) in
     -- all tests but 16 are passed: what the code found decides
     let last : refusal_at c.args.image.now c.args.state (Acknowledge c.args.board c.args.context.now)
     ≡ first (test c.has-2.result 16 ∷ []) =
-        let twice = c.has-2.ensures ∙ ap (λ o. has o.acknowledged c.args.board) c.commit_of-open.ensures in
-        acknowledge_last _ _ _ _ (known).0 (member ∙ c.if-not-has.false)
-        ∙ ap (λ b. first (test b 16 ∷ [])) (sym twice) in
+    let twice = c.has-2.ensures ∙ ap (λ o. has o.acknowledged c.args.board) c.commit_of-open.ensures in
+    acknowledge_last _ _ _ _ (known).0 (member ∙ c.if-not-has.false)
+    ∙ ap (λ b. first (test b 16 ∷ [])) (sym twice) in
     passed (last ∙ first_passed 16 [] c.if-has.false)
     (known).1

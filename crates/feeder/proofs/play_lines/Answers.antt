@@ -1,5 +1,4 @@
 -- `play_lines` meets its contract: what the lines played so far gave is written.
-use Prim.Native.Nat.{◌-◌}
 use mathlib.Core.Path.{◌≡◌, refl, sym, ◌∙◌}
 use mathlib.Core.Bool.{true}
 use native.Mathlib.Omega.{arith}
@@ -67,10 +66,13 @@ pub step-stepped-requires : goal.step-stepped-requires
 step-stepped-requires c =
     -- a next line is played
     let going : goes (state_of c.loop-buffer.current c.loop-buffer.area) ≡ true =
-    sym (c.goes_on.ensures c.loop-buffer.area) ∙ c.loop-buffer-test.true in
-    (
-      record { fits = c.loop-buffer.invariant.4; going = going; whole =
-      omega (arith, c.requires.1, c.loop-buffer.invariant.0) },
+    sym (c.goes_on.ensures c.loop-buffer.area) ∙ c.loop-buffer-test.true in (
+      record {
+        fits = c.loop-buffer.invariant.4;
+        going = going;
+        whole =
+            omega (arith, c.requires.1, c.loop-buffer.invariant.0);
+      },
       omega (arith, c.if-out-written-lt-ROOM.false, c.loop-buffer.invariant.1, c.loop-buffer.invariant.3),
       omega (arith, c.loop-buffer.invariant.5),
     )
@@ -96,8 +98,7 @@ loop-buffer-preserved c =
     -- a next line is played
     let going : goes (state_of c.loop-buffer.current c.loop-buffer.area) ≡ true =
     sym (c.goes_on.ensures c.loop-buffer.area) ∙ c.loop-buffer-test.true in
-    let whole = rw c.in-EndsAt.is at c.next_line.ensures in
-    (
+    let whole = rw c.in-EndsAt.is at c.next_line.ensures in (
       c.step-stepped.auto.area ∙ c.loop-buffer.invariant.0,
       c.step-stepped.auto.out ∙ c.loop-buffer.invariant.1,
       omega (arith, whole.within),

@@ -1,5 +1,5 @@
 -- `put_lines` meets its contract: after x rounds the lines of the first x masks are written.
-use Prim.Native.Nat.{◌+◌, ◌*◌, ◌≤◌, ◌-◌}
+use Prim.Native.Nat.{◌+◌, ◌*◌, ◌≤◌}
 use mathlib.Core.Path.{◌≡◌}
 use native.Mathlib.Omega.{arith}
 use lib.ListN.{length, get_or, take}
@@ -25,14 +25,14 @@ put_group-end-requires c =
     let sixteen : length c.args.masks ≡ 16 = search rules in
     -- a line is five characters long, and the lines so far are written
     let room : c.loop-x.x ≤ c.args.count
-    → c.loop-x.next ≡ c.args.at + 5 * c.loop-x.x =     λ l.
-        let full = sixteen in
-        omega (
-          arith,
-          c.loop-x.invariant.1.place,
-          length_lines (take c.loop-x.x c.args.masks),
-          length-take-le c.loop-x.x c.args.masks (omega arith),
-        ) in
+    → c.loop-x.next ≡ c.args.at + 5 * c.loop-x.x = λ l.
+    let full = sixteen in
+    omega (
+      arith,
+      c.loop-x.invariant.1.place,
+      length_lines (take c.loop-x.x c.args.masks),
+      length-take-le c.loop-x.x c.args.masks (omega arith),
+    ) in
     omega (arith, room c.loop-x.invariant.0, appends_length c.loop-x.invariant.1, c.requires.1)
 
 pub put-next-requires : goal.put-next-requires
@@ -40,14 +40,14 @@ put-next-requires c =
     let sixteen : length c.args.masks ≡ 16 = search rules in
     -- a line is five characters long, and the lines so far are written
     let room : c.loop-x.x ≤ c.args.count
-    → c.loop-x.next ≡ c.args.at + 5 * c.loop-x.x =     λ l.
-        let full = sixteen in
-        omega (
-          arith,
-          c.loop-x.invariant.1.place,
-          length_lines (take c.loop-x.x c.args.masks),
-          length-take-le c.loop-x.x c.args.masks (omega arith),
-        ) in
+    → c.loop-x.next ≡ c.args.at + 5 * c.loop-x.x = λ l.
+    let full = sixteen in
+    omega (
+      arith,
+      c.loop-x.invariant.1.place,
+      length_lines (take c.loop-x.x c.args.masks),
+      length-take-le c.loop-x.x c.args.masks (omega arith),
+    ) in
     omega (
       arith,
       room c.loop-x.invariant.0,

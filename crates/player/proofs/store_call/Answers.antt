@@ -16,8 +16,11 @@ returns-then-letter-eq-START c =
 pub returns-then-letter-eq-ACKNOWLEDGE : goal.returns-then-letter-eq-ACKNOWLEDGE
 unfolding request_of
 returns-then-letter-eq-ACKNOWLEDGE c =
-    rw (ne_eqb _ _ c.if-letter-eq-WRITE.false, ne_eqb _ _ c.if-letter-eq-START.false,
-    eq-eqb _ _ c.if-letter-eq-ACKNOWLEDGE.true)
+    rw (
+      ne_eqb _ _ c.if-letter-eq-WRITE.false,
+      ne_eqb _ _ c.if-letter-eq-START.false,
+      eq-eqb _ _ c.if-letter-eq-ACKNOWLEDGE.true,
+    )
     c.acknowledge.ensures
 
 pub returns-then-letter-eq-FAULT : goal.returns-then-letter-eq-FAULT

@@ -6,21 +6,19 @@ use Rattle.reports.proofs.Laws.{page_stepped, order_stepped}
 use Rattle.reports.proofs.step.Goals as goal
 
 pub play_event-played-requires : goal.play_event-played-requires
-play_event-played-requires c =
-    (
-      record { whole = c.requires.0.whole; fits = c.requires.0.fits.image },
-      going_lines c.args.task.report (run_of c.args.task.run c.args.area.now) c.requires.0.going,
-      omega (arith, c.take_apart-parsed.ensures.1, c.buffer-1.given, c.requires.2),
-      omega (arith, c.buffer-1.given, c.requires.2),
-    )
+play_event-played-requires c = (
+  record { whole = c.requires.0.whole; fits = c.requires.0.fits.image },
+  going_lines c.args.task.report (run_of c.args.task.run c.args.area.now) c.requires.0.going,
+  omega (arith, c.take_apart-parsed.ensures.1, c.buffer-1.given, c.requires.2),
+  omega (arith, c.buffer-1.given, c.requires.2),
+)
 
 pub print_rows-requires : goal.print_rows-requires
-print_rows-requires c =
-    (
-      omega (arith, c.requires.1),
-      c.play_event-played.ensures.few,
-      omega (arith, c.buffer-2-1.given, c.buffer-1.given, c.requires.2),
-    )
+print_rows-requires c = (
+  omega (arith, c.requires.1),
+  c.play_event-played.ensures.few,
+  omega (arith, c.buffer-2-1.given, c.buffer-1.given, c.requires.2),
+)
 
 pub print_decided-requires : goal.print_decided-requires
 print_decided-requires c =

@@ -5,6 +5,7 @@ use Rattle.reports.specs.Reports.{OrderState}
 use Rattle.reports.proofs.Task.order.Goals as goal
 
 pub returns : goal.returns
-returns c =
-    (record { image = omega (arith, c.new-run.ensures.0); report = tt },
-    λ area. ap OrderState (c.new-run.ensures.1 area))
+returns c = (
+  record { image = omega (arith, c.new-run.ensures.0); report = tt },
+  λ area. ap OrderState (c.new-run.ensures.1 area),
+)

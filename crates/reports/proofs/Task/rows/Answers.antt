@@ -5,6 +5,7 @@ use Rattle.reports.specs.Reports.{RowsState}
 use Rattle.reports.proofs.Task.rows.Goals as goal
 
 pub returns : goal.returns
-returns c =
-    (record { image = omega (arith, c.new-run.ensures.0); report = tt },
-    λ area. ap RowsState (c.new-run.ensures.1 area))
+returns c = (
+  record { image = omega (arith, c.new-run.ensures.0); report = tt },
+  λ area. ap RowsState (c.new-run.ensures.1 area),
+)
