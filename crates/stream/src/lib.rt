@@ -127,8 +127,8 @@ pub fn play<R: Read, W: Write>(
     Ended::Played
 }
 
-// Writes a line: what failed, as the caller names it, a colon and the system's text for the error, behind which the
-// error itself gives its number in brackets.
+// Writes a line: what failed, as the caller names it, a colon and the system's text for the error. An error prints its
+// number in brackets behind that text: it ends at the first bracket, and the buffer is full of brackets.
 fn fail<W: Write>(to: &mut W, what: &[u8], error: io::Error) {
     let mut text = [b'('; 96];
     let mut rest = &mut text[..];
