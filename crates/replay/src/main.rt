@@ -9,9 +9,9 @@ ghost use Rattle.reports.specs.Tasks.{Fits};
 use reports::Task;
 use std::env::FillError;
 use std::fs::File;
-use std::io::{ErrorKind, Read, Write};
+use std::io::{Read, Write};
 use std::rt::{Env, Files};
-use std::{io, str};
+use std::str;
 use stream::Ended;
 
 // What was read of a file, and whether that is all of it.
@@ -71,18 +71,18 @@ fn read_all<R: Read>(from: &mut R, text: &mut [u8]) -> Got
     }
 }
 
-// Opens the file of a path for reading.
-fn open_read<R: Files>(rt: &R, path: &[u8]) -> io::Result<R::File> {
-    match str::from_utf8(path) {
-        Ok(name) => File::open(rt, name),
-        Err(_) => Err(io::Error::from(ErrorKind::InvalidInput)),
-    }
+// The file of a path, opened for reading; none where it can't be.
+fn open_read<R: Files>(rt: &R, path: &[u8]) -> Option<R::File> {
+    let Ok(name) = str::from_utf8(path) else {
+        return None;
+    };
+    File::open(rt, name).ok()
 }
 
 fn load<R: Files>(rt: &R, name: &[u8], text: &mut [u8]) -> Got
     ensures { result.length ≤ length text.new }
 {
-    let Ok(mut file) = open_read(rt, name) else {
+    let Some(mut file) = open_read(rt, name) else {
         return Got {
             length: 0,
             whole: false,
@@ -154,7 +154,7 @@ fn play_files<R: Read, W: Write>(size: usize, task: Task, from: &mut R, to: &mut
 fn play_by<R: Files>(rt: &R, size: usize, task: Task, events: &[u8]) -> bool
     requires { (1 ≤ size) × (size ≤ 8192) × Fits task }
 {
-    let Ok(mut from) = open_read(rt, events) else {
+    let Some(mut from) = open_read(rt, events) else {
         return false;
     };
     let Ok(mut to) = File::create(rt, "played") else {

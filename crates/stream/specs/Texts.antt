@@ -1,4 +1,4 @@
--- The text for the next turn of a run over open files.
+-- The text for the next turn of a run over a reader.
 use Rattle.std.specs.Prelude.{ℕ, ◌≤◌, ◌≡◌, List, length, take}
 use Rattle.pieces.specs.Answers.{Over}
 use Rattle.pieces.specs.declared.Got.{Got}

@@ -21,7 +21,7 @@ pub enum Ended {
     OutputFailed(io::Error),
 }
 
-// Reads at most `size` characters behind those that are held; `error` becomes that of a read that fails.
+// Reads at most `size` characters behind those that are held; a read that fails leaves its error in `error`.
 fn read_behind<R: Read>(
     from: &mut R,
     size: usize,
@@ -43,7 +43,8 @@ fn read_behind<R: Read>(
     }
 }
 
-// The text for the next turn: what is held where more of it is to be played, else what is read behind it.
+// The text for the next turn: what is held where more of it is to be played, else what is read behind it; a read that
+// fails leaves its error in `error`.
 pub fn next_text<R: Read>(
     from: &mut R,
     size: usize,
@@ -107,6 +108,7 @@ pub fn play<R: Read, W: Write>(
     let mut task = first;
     let mut held = 0;
     let mut stop = Stop::Unfinished;
+    // Stands for no error: it is told only where a read failed, and that read leaves its own.
     let mut error = io::Error::from_raw_os_error(0);
     let mut turns = u64::MAX;
     while turns > 0 {
@@ -128,7 +130,8 @@ pub fn play<R: Read, W: Write>(
 }
 
 // Writes a line: what failed, as the caller names it, a colon and the system's text for the error. An error prints its
-// number in brackets behind that text: it ends at the first bracket, and the buffer is full of brackets.
+// number in brackets behind that text, so the text ends at the first bracket; the buffer is full of brackets, so that
+// there is one.
 fn fail<W: Write>(to: &mut W, what: &[u8], error: io::Error) {
     let mut text = [b'('; 96];
     let mut rest = &mut text[..];
