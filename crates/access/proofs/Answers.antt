@@ -3,7 +3,7 @@ use Prim.Native.Nat.{ℕ, ◌+◌, ◌-◌, ◌/◌, ◌≤◌, ◌<◌}
 use mathlib.Core.Path.{◌≡◌, refl, sym, ◌∙◌, ap, ap₂, subst, subst⁻¹}
 use mathlib.Core.Bool.{Bool, true, false, cond}
 use mathlib.Core.List.{List, [], ◌∷◌, ◌++◌, map, map-append, append-nil}
-use mathlib.Core.Logic.{◌≢◌, ◌⊎◌, inl, inr, ⊎_elim}
+use mathlib.Core.Logic.{◌⊎◌, inl, inr, ⊎_elim}
 use lib.Dec.{eqb}
 use lib.ListN.{length, get_or}
 use lib.Seq.{take-nil}
@@ -15,13 +15,16 @@ use Rattle.boards.specs.Lists.{span, any_of}
 use Rattle.protocol.specs.Accesses.{board_of, touched, read_binding, write_binding, bind_blocks}
 use Rattle.protocol.specs.declared.Binding.{Binding}
 use Rattle.protocol.specs.declared.Binding.TheVariants.{OneWay, TwoWay, Opposite}
-use Rattle.protocol.specs.Image.{Current, Tags, Store, Put, raw, size, base, total, shape_of, view}
+use Rattle.protocol.specs.Image.{Current, Tags, Store, Put, raw, size, base, shape_of, view}
 use Rattle.volatile.specs.Volatile.{depend}
 use Rattle.protocol.specs.Calls.{Read, Write, refusal_at, refusal_of, tagging, placing, plan, refused, record_refused}
 use Rattle.protocol.specs.Calls.{executed, filled}
 use Rattle.protocol.specs.declared.Shape.{Shape}
 use Rattle.protocol.specs.declared.Requester.{Requester}
 use Rattle.volatile.specs.declared.Record.{Record}
+use Rattle.protocol.specs.Answers.{reply_says}
+use Rattle.protocol.specs.Refusals.{number_of}
+use Rattle.protocol.specs.declared.Refusal.{Refusal}
 use Rattle.protocol.specs.declared.Reply.{Reply}
 use Rattle.boards.proofs.Basics.{decide, length_span, span_same}
 use Rattle.protocol.proofs.Bridge.{view_at}
@@ -34,12 +37,14 @@ use Rattle.store.specs.Promise.{Answered, Performed, reply_of}
 use Rattle.store.proofs.Laws.{makes_none}
 use Rattle.store.proofs.Areas.{placing_stores}
 use Rattle.store.proofs.Ends.{ended, turned}
+use Rattle.protocol.proofs.Numbers.{refusal_not_zero}
 use Rattle.layout.proofs.Laws.{bounded, tag_read}
+use Rattle.entry.specs.Tested.{Passed}
 use Rattle.entry.proofs.Laws.{small}
 use Rattle.admission.specs.declared.Place.{Place}
 use Rattle.admission.specs.Places.{Placed}
 use Rattle.admission.proofs.Extent.{whole_touched, bind_touched}
-use Rattle.admission.proofs.Tests.{blocks_below}
+use Rattle.admission.proofs.Tests.{in_image}
 use Rattle.access.specs.Leaves.{bound, filled_from, tag_store, first_tag_store, last_tag_store, binding_of}
 
 -- the place of an access lies in the image, and its board is one of sixteen
@@ -53,21 +58,18 @@ pub record Within (image : List ℕ) (n : ℕ) (p : Place) : Type 0 where
 
 pub within : {image : List ℕ} {r : Record} {who : Requester} {a n room : ℕ} {p : Place} → Placed image r who a n room p
     → Within image n p
-unfolding base total
 within {image} {a = a} {n = n} k =
-    let s = shape_of image in
     let shaped = k.entry.shaped in
     let long = shaped.long in
-    let area = ranged s a n k.range in
-    let below = blocks_below s a n shaped.allowed_shape k.range in
+    let lies = in_image (shape_of image) a n shaped.allowed_shape k.range in
     let size = bounded shaped.allowed_shape in
     record {
       board = subst (λ i. i < 16) (sym (ap (λ (p : Place). p.board) k.place)) (small k.entry);
       first_tag = omega (arith, k.first_known, size);
       last_tag = omega (arith, k.last_known, size);
-      first_block = omega (arith, long, below.first, ap (λ (p : Place). p.first.number) k.place);
-      last_block = omega (arith, long, below.last, ap (λ (p : Place). p.last.number) k.place);
-      cells = omega (arith, long, area, ap (λ (p : Place). p.at) k.place);
+      first_block = omega (arith, lies, ap (λ (p : Place). p.first.number) k.place);
+      last_block = omega (arith, lies, ap (λ (p : Place). p.last.number) k.place);
+      cells = omega (arith, lies, ap (λ (p : Place). p.at) k.place);
     }
 
 -- the links of an access that binds alike in each of its blocks
@@ -79,7 +81,7 @@ bound_touched : {image : List ℕ} {r : Record} {who : Requester} {a n room : �
 bound_touched {image} {r} {who} {a} {n} {p = p} k how kind f l =
     let s = shape_of image in
     let i = board_of s who in
-    let below = blocks_below s a n k.entry.shaped.allowed_shape k.range in
+    let below = in_image s a n k.entry.shaped.allowed_shape k.range in
     ap (λ p. bound kind p r) k.place
     ∙ rw (← tag_read s image (a / s.size) below.first, ← tag_read s image ((a + n - 1) / s.size) below.last)
     (sym (bind_touched s a n how kind (view s image Tags) r i f l))
@@ -100,34 +102,35 @@ unfolding reply_of
 none_spent b next = rw (← sub_self b)
 
 module _ {image : List ℕ} {r : Record} (who : Requester) (a n : ℕ) (buffer : List ℕ) where
-  pub read_refused : (room : ℕ) {k : ℕ} {reply : Reply} → (refusal_at image r (Read who a n room) ≡ k) × (k ≢ 0)
-      → reply ≡ refusal_of k r → Answered (Read who a n room) image r buffer reply buffer
+  pub read_refused : (room : ℕ) (why : Refusal) {reply : Reply} → refusal_at image r (Read who a n room) ≡ number_of why
+      → reply_says reply ≡ refusal_of (number_of why) r → Answered (Read who a n room) image r buffer reply buffer
   unfolding refused record_refused filled
-  read_refused room h f =
+  read_refused room why h f =
       let request = Read who a n room in
       record {
-        reply = λ b. (turned r request {k = b} h.0 h.1 refl f).reply;
+        reply = λ b. (turned r request {k = b} why h refl f).reply;
         buffer = λ b.
-            sym (ap (λ o. filled o.bytes buffer) (turned_down image refl r request (λ z. h.1 (sym h.0 ∙ z)) b));
+            sym (ap (λ o. filled o.bytes buffer)
+            (turned_down image refl r request (λ z. refusal_not_zero why (sym h ∙ z)) b));
       }
 
   pub read_done : (room : ℕ) {p : Place} {b : Budget} {next : Record} {reply : Reply} {after : List ℕ}
-      → (refusal_at image r (Read who a n room) ≡ 0) × Placed image r who a n room p
+      → Passed (refusal_at image r (Read who a n room)) (Placed image r who a n room) p
       → next ≡ bound OneWay p r → after ≡ filled_from image p.at n buffer → b ≡ start 0
-      → reply ≡ reply_of 0 b false 0 next → Answered (Read who a n room) image r buffer reply after
+      → reply_says reply ≡ reply_of 0 b false 0 next → Answered (Read who a n room) image r buffer reply after
   unfolding executed plan any_of size read_binding
-  read_done room {p} {next = next} known q f new g =
+  read_done room {p} {next = next} passed q f new g =
       let s = shape_of image in
-      let k = known.1 in
+      let k = passed.known in
       let begins = ap (λ (p : Place). p.at) k.place in
       let whole = g ∙ ap (λ b. reply_of 0 b false 0 next) new in
       let bytes = filled_current s image buffer p.at a n begins (ranged s a n k.range).within in
       record {
         reply = λ b.
-            (ended r (Read who a n room) refl known.0 refl (makes_none (start b) image) (rw take-nil) refl
+            (ended r (Read who a n room) refl passed.none refl (makes_none (start b) image) (rw take-nil) refl
             (q ∙ bound_touched k read_binding OneWay refl refl) (whole ∙ none_spent b next)).reply;
         buffer = λ b.
-            let o = ap (λ o. filled o.bytes buffer) (taken image refl r (Read who a n room) known.0 b) in
+            let o = ap (λ o. filled o.bytes buffer) (taken image refl r (Read who a n room) passed.none b) in
             f ∙ bytes ∙ sym (rw (le-ltb b 0 (omega arith)) at o);
       }
 
@@ -153,7 +156,7 @@ module _ {image : List ℕ} {r : Record} (who : Requester) (a : ℕ) (bytes : Li
         let s = shape_of image in
         let first = a / s.size in
         let last = (a + length bytes - 1) / s.size in
-        let below = blocks_below s a (length bytes) k.entry.shaped.allowed_shape k.range in
+        let below = in_image s a (length bytes) k.entry.shaped.allowed_shape k.range in
         let one = tag_read s image first below.first in
         let two = tag_read s image last below.last in
         ⊎_elim
@@ -187,7 +190,7 @@ module _ {image : List ℕ} {r : Record} (who : Requester) (a : ℕ) (bytes : Li
     pub write_done : {m : ℕ} {b left : Budget} {how : Binding} {next : Record} {reply : Reply} {after : List ℕ}
         → refusal_at image r (Write who a bytes) ≡ 0 → how ≡ binding_of p (length bytes) → next ≡ bound how p r
         → b ≡ start m → Makes ((first_tag_store p ++ last_tag_store p) ++ put_stores p.at bytes) b image left after
-        → reply ≡ reply_of m left false 0 next → Performed (Write who a bytes) m image r reply after
+        → reply_says reply ≡ reply_of m left false 0 next → Performed (Write who a bytes) m image r reply after
     unfolding plan
     write_done {m} {b} {left} {how} {after = after} z e q new h g =
         let s = shape_of image in

@@ -11,8 +11,7 @@ ghost use Rattle.store.specs.Runs.{put_stores};
 ghost use Rattle.store.specs.Promise.{Performed, Answered};
 ghost use Rattle.access.specs.Leaves.{bound, filled_from, tag_store, first_tag_store, last_tag_store, binding_of};
 
-use admission::{Admission, Block, Place, admit, admit_write};
-use boards::Writer;
+use admission::{Block, Place, admit, admit_write};
 use boards::sets::writer_of;
 use layout::TAGS;
 use protocol::{Binding, Reply, Requester};
@@ -25,7 +24,7 @@ fn bind(state: Record, how: Binding, i: u8, tag: u8) -> Record
     requires { (i < 16) × (tag ≤ 16) }
     ensures { result ≡ bind_tag depend how state i tag }
 {
-    let Writer::Board(j) = writer_of(tag) else {
+    let Some(j) = writer_of(tag) else {
         return state;
     };
     if i == j {
@@ -57,10 +56,7 @@ fn fill(image: &[u8], at: usize, n: usize, buffer: &mut [u8])
     requires { (at + n ≤ length image.now) × (n ≤ length buffer.old) }
     ensures { buffer.new ≡ filled_from image.now at n buffer.old }
 {
-    for x in 0..n {
-        let byte = image[at + x];
-        buffer[x] = byte;
-    }
+    buffer[..n].copy_from_slice(&image[at..at + n]);
 }
 
 // The first n bytes of the buffer become the current bytes from the cell on; the requester's board comes to depend on
@@ -76,9 +72,9 @@ fn read_by(
     ensures { Answered (Read who cell n (length buffer.old)) image.now state
         buffer.old result buffer.new }
 {
-    let admission = admit(image, state, who, cell, n, buffer.len());
-    let Admission::Taken(p) = admission else {
-        return refusal(admission.number(), state);
+    let p = match admit(image, state, who, cell, n, buffer.len()) {
+        Ok(p) => p,
+        Err(why) => return refusal(why, state),
     };
     let next = bind_blocks(state, Binding::OneWay, p);
     fill(image, p.at, n, buffer);
@@ -172,9 +168,9 @@ fn write_by(
     ensures { Performed (Write who cell bytes.now) k image.old state
         result image.new }
 {
-    let admission = admit_write(image, state, who, cell, bytes);
-    let Admission::Taken(p) = admission else {
-        return refusal(admission.number(), state);
+    let p = match admit_write(image, state, who, cell, bytes) {
+        Ok(p) => p,
+        Err(why) => return refusal(why, state),
     };
     let how = binding_of(p, bytes.len());
     let next = bind_blocks(state, how, p);

@@ -1,3 +1,2 @@
 pub mod Extent
-pub mod Range
 pub mod Tests

@@ -6,10 +6,10 @@ use mathlib.Core.List.{List, [], ◌∷◌, ◌++◌}
 use lib.Dec.{ltb}
 use lib.ListN.{length}
 use native.Mathlib.Omega.{arith}
-use borrow.Author.Tests.{lt-ltb, le-ltb}
+use borrow.Author.Tests.{le-ltb}
 use Rattle.boards.specs.Lists.{any_of}
 use Rattle.boards.specs.Boards.{has, tagged_in}
-use Rattle.protocol.specs.Image.{allowed, shape_of, view}
+use Rattle.protocol.specs.Image.{Current, allowed, shape_of, total, base, view}
 use Rattle.volatile.specs.Volatile.{engaged}
 use Rattle.protocol.specs.Accesses.{board_of}
 use Rattle.protocol.specs.Calls.{Read, Write, Test, test, first, refusals, refusal_at, bad_range, tags_of}
@@ -17,31 +17,43 @@ use Rattle.protocol.specs.Calls.{entry_tests, read_tests, write_tests, over_port
 use Rattle.protocol.specs.declared.Shape.{Shape}
 use Rattle.protocol.specs.declared.Requester.{Requester}
 use Rattle.volatile.specs.declared.Record.{Record}
+use Rattle.std.proofs.lemmas.Bool.Decides.{nat_tests}
+use Rattle.boards.proofs.Basics.{row_fits}
 use Rattle.protocol.proofs.Refusals.{entry_goes_on, first_goes_on}
 use Rattle.protocol.proofs.Safety.{block_below}
 use Rattle.protocol.proofs.Plans.{ranged}
-use Rattle.layout.proofs.Laws.{bounded, tag_read}
-use Rattle.entry.specs.Tested.{Tested, EntryPassed}
-use Rattle.entry.proofs.Laws.{if_passed}
+use Rattle.layout.proofs.Laws.{bounded, shaped_power, tag_read}
+use Rattle.entry.specs.Tested.{EntryPassed, Passed}
 use Rattle.admission.specs.declared.Place.{Place}
-use Rattle.admission.specs.Places.{place_at, admission_says, Placed}
-use Rattle.admission.specs.declared.Admission.{Admission}
-use Rattle.admission.specs.declared.Admission.TheVariants.{Taken}
+use Rattle.admission.specs.Places.{place_at, Placed}
 use Rattle.admission.proofs.Extent.{any_touched}
 
--- the first and the last block of an access are blocks of the image
-pub record BlocksBelow (s : Shape) (a n : ℕ) : Type 0 where
+-- the first and the last block of an access are blocks of the image, and all tags and the access's cells lie in it
+pub record InImage (s : Shape) (a n : ℕ) : Type 0 where
   pub first : a / s.size < s.blocks
   pub last : (a + n - 1) / s.size < s.blocks
+  pub tags : 12 + s.blocks ≤ total s
+  pub cells : base s Current + a + n ≤ total s
 
-pub blocks_below : (s : Shape) (a n : ℕ) → allowed s ≡ true → bad_range s a n ≡ false → BlocksBelow s a n
-blocks_below s a n h ok =
+pub in_image : (s : Shape) (a n : ℕ) → allowed s ≡ true → bad_range s a n ≡ false → InImage s a n
+unfolding base total
+in_image s a n h ok =
     let positive : 0 < s.size = omega (arith, bounded h) in
     let r = ranged s a n ok in
     record {
       first = block_below s a positive (omega (arith, r));
       last = block_below s (a + n - 1) positive (omega (arith, r));
+      tags = omega arith;
+      cells = omega (arith, r);
     }
+
+-- ---- what `bad_range` and `over_port_limit` need, and what `locate` does
+
+pub ruleset range_laws = (nat_tests, bounded, row_fits)
+
+pub ruleset place_laws = (bounded, shaped_power, ranged, in_image)
+
+-- ---- accesses that are taken
 
 -- an access that is taken
 pub placed : {image : List ℕ} {r : Record} {who : Requester} {i n room : ℕ} {s : Shape} {p : Place} (a : ℕ)
@@ -64,22 +76,12 @@ placed {image} {r} {who} {i} {n} {room} {p = p} a q e entry ok fits l m =
     })
     q e entry ok l m
 
--- tests that answered Taken
-pub if_admitted : {n : ℕ} {Known : Place → Type 0} {e : Admission} {p : Place} → Tested n Known (admission_says e)
-    → e ≡ Taken p → (n ≡ 0) × Known p
-if_admitted t q = if_passed t (ap admission_says q)
-
--- a test that holds for one of two reasons is two tests
-one_by_one : (b c : Bool) (x y : ℕ) → cond (b || c) x y ≡ cond b x (cond c x y)
-one_by_one true c x y = refl
-one_by_one false c x y = refl
-
 -- a test of a touched block's tag, by the place
 any_placed : (s : Shape) (image : List ℕ) {i : ℕ} {p : Place} (a n : ℕ) → allowed s ≡ true → bad_range s a n ≡ false
     → p ≡ place_at s image i a n → (t : ℕ → Bool)
     → any_of t (tags_of s (view s image) a n) ≡ t p.first.tag || t p.last.tag
 any_placed s image a n h ok at t =
-    let below = blocks_below s a n h ok in
+    let below = in_image s a n h ok in
     any_touched s a n (view s image) t
     ∙ rw (tag_read s image (a / s.size) below.first, tag_read s image ((a + n - 1) / s.size) below.last, at)
 
@@ -87,44 +89,32 @@ any_placed s image a n h ok at t =
 
 module _ {image : List ℕ} {r : Record} {s : Shape} (who : Requester) (a n room : ℕ)
     (known : let i = board_of (shape_of image) who in
-    (first (entry_tests image r i) ≡ 0) × EntryPassed image r i s)
+    Passed (first (entry_tests image r i)) (EntryPassed image r i) s)
   where
-    own : refusal_at image r (Read who a n room) ≡ first (read_tests s (view s image) r who a n room)
+    pub read_own : refusal_at image r (Read who a n room) ≡ first (read_tests s (view s image) r who a n room)
     unfolding refusals
-    own =
-        entry_goes_on image r (board_of (shape_of image) who) _ known.0
-        ∙ ap (λ t. first (read_tests t (view t image) r who a n room)) known.1.shaped.shape
+    read_own =
+        entry_goes_on image r (board_of (shape_of image) who) _ known.none
+        ∙ ap (λ t. first (read_tests t (view t image) r who a n room)) known.known.shaped.shape
 
-    pub read_two : bad_range s a n ≡ true → refusal_at image r (Read who a n room) ≡ 2
+    -- the tags are those of the place
+    pub read_at : bad_range s a n ≡ false → over_port_limit who n ≡ false → n ≤ room →
+        {i : ℕ} {p : Place} → p ≡ place_at s image i a n → refusal_at image r (Read who a n room)
+        ≡ first
+        (test (ltb s.boards p.first.tag || ltb s.boards p.last.tag) 11
+        ∷ test (has (engaged r) (board_of s who)) 13
+        ∷ [])
     unfolding read_tests first
-    read_two h = own ∙ rw h
-
-    pub read_seventeen : bad_range s a n ≡ false → over_port_limit who n ≡ true
-        → refusal_at image r (Read who a n room) ≡ 17
-    unfolding read_tests first
-    read_seventeen ok h = own ∙ rw (ok, h)
-
-    module _ (ok : bad_range s a n ≡ false) (within_limit : over_port_limit who n ≡ false) where
-      pub read_five : room < n → refusal_at image r (Read who a n room) ≡ 5
-      unfolding read_tests first
-      read_five l = own ∙ rw (ok, within_limit, lt-ltb room n l)
-
-      module _ (fits : n ≤ room) {i : ℕ} {p : Place} (at : p ≡ place_at s image i a n) where
-        high : any_of (ltb s.boards) (tags_of s (view s image) a n)
-            ≡ ltb s.boards p.first.tag || ltb s.boards p.last.tag
-        high = any_placed s image a n known.1.shaped.allowed_shape ok at (ltb s.boards)
-
-        -- each block's tag by itself, then the board
-        pub read_rest : refusal_at image r (Read who a n room)
-            ≡ first
-            (test (ltb s.boards p.first.tag) 11
-            ∷ test (ltb s.boards p.last.tag) 11
-            ∷ test (has (engaged r) (board_of s who)) 13
-            ∷ [])
-        unfolding read_tests first
-        read_rest = own ∙ rw (high, ok, within_limit, le-ltb room n fits, one_by_one)
+    read_at ok within_limit fits at =
+        let tags = any_placed s image a n known.known.shaped.allowed_shape ok at (ltb s.boards) in
+        read_own ∙ rw (tags, ok, within_limit, le-ltb room n fits)
 
 -- ---- a write tests what a read with room enough tests, and then the tag
+
+-- a test that holds for one of two reasons is two tests
+one_by_one : (b c : Bool) (x y : ℕ) → cond (b || c) x y ≡ cond b x (cond c x y)
+one_by_one true c x y = refl
+one_by_one false c x y = refl
 
 module _ (image : List ℕ) (r : Record) (who : Requester) (a : ℕ) (bytes : List ℕ) where
   abbrev pub as_read : List Test
@@ -138,14 +128,13 @@ module _ (image : List ℕ) (r : Record) (who : Requester) (a : ℕ) (bytes : Li
   unfolding refusals entry_tests read_tests write_tests first
   write_tests_as = rw (le-ltb (length bytes) (length bytes) (omega arith), one_by_one)
 
-  pub write_last : {p : Place} → first as_read ≡ 0 → Placed image r who a (length bytes) (length bytes) p
+  pub write_last : {p : Place} → Passed (first as_read) (Placed image r who a (length bytes) (length bytes)) p
       → refusal_at image r (Write who a bytes)
-      ≡ first
-      (test (tagged_in (engaged r) p.first.tag) 13 ∷ test (tagged_in (engaged r) p.last.tag) 13 ∷ [])
+      ≡ cond (tagged_in (engaged r) p.first.tag || tagged_in (engaged r) p.last.tag) 13 0
   unfolding refusals entry_tests read_tests any_of first
-  write_last {p} z k =
-      write_tests_as ∙ first_goes_on as_read (tagged_test ∷ []) refl z
-      ∙ ap (λ b. first (test b 13 ∷ []))
+  write_last {p} h =
+      let k = h.known in
+      write_tests_as ∙ first_goes_on as_read (tagged_test ∷ []) refl h.none
+      ∙ ap (λ b. cond b 13 0)
       (any_placed (shape_of image) image a (length bytes) k.entry.shaped.allowed_shape k.range k.place
       (tagged_in (engaged r)))
-      ∙ one_by_one (tagged_in (engaged r) p.first.tag) (tagged_in (engaged r) p.last.tag) 13 0

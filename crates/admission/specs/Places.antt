@@ -1,6 +1,5 @@
 -- Where an access lies, and what its tests answer.
-use Rattle.std.specs.Prelude.{ℕ, ◌+◌, ◌-◌, ◌/◌, ◌≤◌, ◌≡◌, false, List, ◌⊎◌}
-use Rattle.std.proofs.Common.{inl, inr}
+use Rattle.std.specs.Prelude.{ℕ, ◌+◌, ◌-◌, ◌/◌, ◌≤◌, ◌≡◌, false, List}
 use Rattle.protocol.specs.Image.{Current, byte, base, shape_of}
 use Rattle.protocol.specs.Accesses.{board_of}
 use Rattle.protocol.specs.Calls.{bad_range}
@@ -11,8 +10,6 @@ use Rattle.layout.specs.Headers.{tags_at}
 use Rattle.entry.specs.Tested.{EntryPassed}
 use Rattle.admission.specs.declared.Block.{Block}
 use Rattle.admission.specs.declared.Place.{Place}
-use Rattle.admission.specs.declared.Admission.{Admission}
-use Rattle.admission.specs.declared.Admission.TheVariants.{Refused, Taken}
 
 -- block b with its tag
 abbrev pub block_at : List ℕ → ℕ → Block
@@ -28,11 +25,6 @@ place_at s image i a n =
       last = block_at image ((a + n - 1) / s.size);
       size = s.size;
     }
-
--- what the cases of Admission say
-abbrev pub admission_says : Admission → ℕ ⊎ Place
-admission_says (Refused n) = inl n
-admission_says (Taken p) = inr p
 
 -- What an access of n cells from a on knows that passed its tests: what every board's call does; its range, and that it
 -- fits the room for its bytes; its place, which has its board; that both tags are in order.

@@ -4,13 +4,13 @@ ghost use Rattle.std.specs.Prelude.{◌≡◌, true, false, ◌+◌, ◌<◌, le
 ghost use Rattle.protocol.specs.Image.{allowed};
 ghost use Rattle.protocol.specs.Calls.{Read, Write, refusal_at, bad_range, over_port_limit};
 ghost use Rattle.layout.specs.Headers.{tags_at, Shaped};
-ghost use Rattle.entry.specs.Tested.{refusal_number, Tested};
-ghost use Rattle.admission.specs.Places.{block_at, place_at, admission_says, Placed};
+ghost use Rattle.entry.specs.Tested.{Tested};
+ghost use Rattle.admission.specs.Places.{block_at, place_at, Placed};
 
 use boards::sets::{has, tagged_in};
-use entry::{Entry, board_of, enter_by};
+use entry::{board_of, enter_by};
 use layout::{TAGS, block_of, current_at};
-use protocol::{Requester, Shape};
+use protocol::{Refusal, Requester, Shape};
 use volatile::Record;
 
 // The most cells of an access by the port.
@@ -33,26 +33,8 @@ pub struct Place {
     pub size: usize,
 }
 
-// What the tests of an access answer: the number of the refusal, or where it lies.
-#[derive(Clone, Copy)]
-pub enum Admission {
-    Refused(u8),
-    Taken(Place),
-}
-
-impl Admission {
-    // The number of the refusal, 0 for none.
-    pub fn number(self) -> u8
-        ensures { result ≡ refusal_number (admission_says self) }
-    {
-        match self {
-            Admission::Refused(n) => n,
-            Admission::Taken(_) => 0,
-        }
-    }
-}
-
 // 2: n is 0 or above S, or the access passes the last cell.
+#[tactic(auto, using(crate::proofs::Tests::range_laws), unfolding(protocol::specs::Calls::bad_range))]
 fn bad_range(s: Shape, cell: usize, n: usize) -> bool
     requires { allowed s ≡ true }
     ensures { result ≡ bad_range s cell n }
@@ -68,6 +50,7 @@ fn bad_range(s: Shape, cell: usize, n: usize) -> bool
 }
 
 // 17: the port asks for more cells than its limit.
+#[tactic(auto, using(crate::proofs::Tests::range_laws), unfolding(protocol::specs::Calls::over_port_limit))]
 fn over_port_limit(who: Requester, n: usize) -> bool
     ensures { result ≡ over_port_limit who n }
 {
@@ -90,6 +73,7 @@ fn block_at(image: &[u8], number: usize) -> Block
 }
 
 // Where a board's access of n cells lies: its first cell tells the first block, its last cell the last one.
+#[tactic(auto, using(crate::proofs::Tests::place_laws))]
 fn locate(image: &[u8], s: Shape, board: u8, cell: usize, n: usize) -> Place
     requires { Shaped image.now s × (bad_range s cell n ≡ false) }
     ensures { result ≡ place_at s image.now board cell n }
@@ -116,36 +100,30 @@ pub fn admit(
     cell: usize,
     n: usize,
     room: usize,
-) -> Admission
+) -> Result<Place, Refusal>
     ensures { Tested (refusal_at image.now state (Read who cell n room))
-        (Placed image.now state who cell n room) (admission_says result) }
+        (Placed image.now state who cell n room) result }
 {
-    let entry = enter_by(image, state, who);
-    let Entry::Taken(s) = entry else {
-        return Admission::Refused(entry.number());
-    };
+    let s = enter_by(image, state, who)?;
     if bad_range(s, cell, n) {
-        return Admission::Refused(2);
+        return Err(Refusal::OutOfRange);
     }
     if over_port_limit(who, n) {
-        return Admission::Refused(17);
+        return Err(Refusal::OverPortLimit);
     }
     if n > room {
-        return Admission::Refused(5);
+        return Err(Refusal::WrongLength);
     }
     let board = board_of(s, who) as u8;
     let p = locate(image, s, board, cell, n);
-    if p.first.tag as usize > s.boards {
-        return Admission::Refused(11);
-    }
-    if p.last.tag as usize > s.boards {
-        return Admission::Refused(11);
+    if p.first.tag as usize > s.boards || p.last.tag as usize > s.boards {
+        return Err(Refusal::Disordered);
     }
     let members = state.engaged();
     if has(members, board) {
-        return Admission::Refused(13);
+        return Err(Refusal::Engaged);
     }
-    Admission::Taken(p)
+    Ok(p)
 }
 
 // A write: as a read with room enough, then 13 if either block is a member's.
@@ -155,22 +133,16 @@ pub fn admit_write(
     who: Requester,
     cell: usize,
     bytes: &[u8],
-) -> Admission
+) -> Result<Place, Refusal>
     ensures { Tested (refusal_at image.now state (Write who cell bytes.now))
         (Placed image.now state who cell (length bytes.now)
-        (length bytes.now)) (admission_says result) }
+        (length bytes.now)) result }
 {
     let n = bytes.len();
-    let admission = admit(image, state, who, cell, n, n);
-    let Admission::Taken(p) = admission else {
-        return admission;
-    };
+    let p = admit(image, state, who, cell, n, n)?;
     let members = state.engaged();
-    if tagged_in(members, p.first.tag) {
-        return Admission::Refused(13);
+    if tagged_in(members, p.first.tag) || tagged_in(members, p.last.tag) {
+        return Err(Refusal::Engaged);
     }
-    if tagged_in(members, p.last.tag) {
-        return Admission::Refused(13);
-    }
-    admission
+    Ok(p)
 }

@@ -1,75 +1,112 @@
-// One call of the module, as a request asks it.
-use crate::requests::{Request, at_most, part_end};
-use protocol::{Reply, Shape};
-use text::{FAULT, FORMAT, POWER_UP, READ, START, WRITE};
+// The calls of the module, as requests ask them.
+use protocol::{Reply, Requester, Shape};
 use volatile::Record;
 
-fn format_call(image: &mut [u8], state: Record, r: Request) -> Reply {
-    let s = Shape {
-        boards: r.a,
-        size: r.b,
-        blocks: r.c,
-        context: r.d,
-    };
-    format::format(image, state, s, r.k)
+// A call with its arguments. Where it gives bytes, these are n from `first` on: first, first + 1, ..
+#[derive(Clone, Copy)]
+pub enum Call {
+    // An image of that length is lent.
+    Format {
+        shape: Shape,
+        length: usize,
+    },
+    // Into a buffer with room for so many bytes.
+    Read {
+        by: Requester,
+        cell: usize,
+        n: usize,
+        room: usize,
+    },
+    Write {
+        by: Requester,
+        cell: usize,
+        n: usize,
+        first: usize,
+    },
+    Start {
+        board: usize,
+        n: usize,
+        first: usize,
+    },
+    Acknowledge {
+        board: usize,
+        n: usize,
+        first: usize,
+    },
+    Fault {
+        board: usize,
+    },
+    PowerUp,
 }
 
-fn read_call(image: &[u8], state: Record, r: Request, buffer: &mut [u8]) -> Reply {
-    let room = at_most(r.d, buffer.len());
-    if r.port {
-        return access::port_read(image, state, r.b, r.c, &mut buffer[0..room]);
+impl Call {
+    // Makes the call with the allowance k; the bytes of a read go into the buffer.
+    pub fn make(self, image: &mut [u8], state: Record, k: usize, buffer: &mut [u8]) -> Reply {
+        let bytes = sequence();
+        match self {
+            Call::Format { shape, .. } => format::format(image, state, shape, k),
+            Call::Read { by, cell, n, room } => {
+                let room = room.min(buffer.len());
+                read(image, state, by, cell, n, &mut buffer[..room])
+            }
+            Call::Write { by, cell, n, first } => {
+                write(image, state, by, cell, part(&bytes, first, n), k)
+            }
+            Call::Start { board, n, first } => {
+                commit::start(image, state, board, part(&bytes, first, n), k)
+            }
+            Call::Acknowledge { board, n, first } => {
+                commit::acknowledge(image, state, board, part(&bytes, first, n), k)
+            }
+            Call::Fault { board } => fault::fault(image, state, board, k),
+            Call::PowerUp => recovery::power_up(image, k),
+        }
     }
-    access::read(image, state, r.a, r.b, r.c, &mut buffer[0..room])
+
+    // How many bytes it reads.
+    pub fn read_length(self) -> usize {
+        match self {
+            Call::Read { n, .. } => n,
+            _ => 0,
+        }
+    }
+}
+
+fn read(
+    image: &[u8],
+    state: Record,
+    by: Requester,
+    cell: usize,
+    n: usize,
+    buffer: &mut [u8],
+) -> Reply {
+    match by {
+        Requester::Board(board) => access::read(image, state, board, cell, n, buffer),
+        Requester::Port => access::port_read(image, state, cell, n, buffer),
+    }
+}
+
+fn write(
+    image: &mut [u8],
+    state: Record,
+    by: Requester,
+    cell: usize,
+    bytes: &[u8],
+    k: usize,
+) -> Reply {
+    match by {
+        Requester::Board(board) => access::write(image, state, board, cell, bytes, k),
+        Requester::Port => access::port_write(image, state, cell, bytes, k),
+    }
 }
 
 // The bytes 0, 1, .. 255.
 fn sequence() -> [u8; 256] {
-    let mut source = [0u8; 256];
-    for i in 0..256 {
-        source[i] = i as u8;
-    }
-    source
+    std::array::from_fn(|i| i as u8)
 }
 
-// Writes r.c bytes: r.d, r.d + 1, ..
-fn write_call(image: &mut [u8], state: Record, r: Request) -> Reply {
-    let source = sequence();
-    let first = at_most(r.d, 256);
-    let end = part_end(first, r.c, 256);
-    if r.port {
-        return access::port_write(image, state, r.b, &source[first..end], r.k);
-    }
-    access::write(image, state, r.a, r.b, &source[first..end], r.k)
-}
-
-// Start or acknowledge, with r.b bytes as context: r.c, r.c + 1, ..
-fn commit_call(image: &mut [u8], state: Record, r: Request) -> Reply {
-    let source = sequence();
-    let first = at_most(r.c, 256);
-    let end = part_end(first, r.b, 256);
-    if r.letter == START {
-        return commit::start(image, state, r.a, &source[first..end], r.k);
-    }
-    commit::acknowledge(image, state, r.a, &source[first..end], r.k)
-}
-
-// The call of a request's letter; the bytes of a read go into the buffer.
-pub fn call(image: &mut [u8], state: Record, r: Request, buffer: &mut [u8]) -> Reply {
-    let letter = r.letter;
-    if letter == FORMAT {
-        return format_call(image, state, r);
-    }
-    if letter == READ {
-        return read_call(image, state, r, buffer);
-    }
-    if letter == WRITE {
-        return write_call(image, state, r);
-    }
-    if letter == FAULT {
-        return fault::fault(image, state, r.a, r.k);
-    }
-    if letter == POWER_UP {
-        return recovery::power_up(image, r.k);
-    }
-    commit_call(image, state, r)
+// n of these bytes from `first` on, or as many as there are.
+fn part(bytes: &[u8], first: usize, n: usize) -> &[u8] {
+    let rest = bytes.get(first..).unwrap_or(&[]);
+    rest.get(..n).unwrap_or(rest)
 }

@@ -1,115 +1,171 @@
 // The lines of a request file.
-ghost use Rattle.std.specs.Prelude.{◌≤◌};
+use crate::calls::Call;
+use fields::read_number;
+use protocol::{Requester, Shape};
 
-use crate::letters::REMARK;
-use fields::{Field, read_number};
-
-// A letter and six numbers, 0 where the line has fewer; whether the second of them is the word `port`.
+// What a line asks for.
 #[derive(Clone, Copy)]
-pub struct Request {
-    pub letter: u8,
-    pub port: bool,
-    pub k: usize,
-    pub a: usize,
-    pub b: usize,
-    pub c: usize,
-    pub d: usize,
-    pub e: usize,
+pub enum Request {
+    // A call with the allowance k.
+    Call(Call, usize),
+    // A call with every allowance until it is not cut.
+    EveryCut(Call),
+    // Whether calls with every allowance show the image that they leave.
+    Show(bool),
+    Image,
+    CommitForecast(usize),
+    FaultForecast(usize),
+    Order,
+    Context(usize),
+    Same,
+    Remember,
+    // How long the image is that is lent.
+    Lend(usize),
+    // A byte of the image becomes another.
+    SetByte(usize, u8),
+    // A number of the record becomes another.
+    SetNumber(usize, u16),
+    // A remark, or no letter that is known.
+    Remark,
 }
 
-// A field of a request: its number, or that it is the word `port`; and where it ends.
+impl Request {
+    // The request of a line: a letter and its numbers, 0 where the line has fewer.
+    pub fn parse(line: &[u8]) -> Request {
+        let Some((letter, behind)) = line.split_first() else {
+            return Request::Remark;
+        };
+        let mut fields = Fields { behind };
+        let k = fields.number();
+        match letter {
+            b'F' => Request::Call(fields.format(), k),
+            b'R' => Request::Call(fields.read(), k),
+            b'W' => Request::Call(fields.write(), k),
+            b'C' => Request::Call(fields.start(), k),
+            b'A' => Request::Call(fields.acknowledge(), k),
+            b'X' => Request::Call(fields.fault(), k),
+            b'U' => Request::Call(Call::PowerUp, k),
+            b'f' => Request::EveryCut(fields.format()),
+            b'w' => Request::EveryCut(fields.write()),
+            b'c' => Request::EveryCut(fields.start()),
+            b'a' => Request::EveryCut(fields.acknowledge()),
+            b'x' => Request::EveryCut(fields.fault()),
+            b'I' => Request::Show(k == 1),
+            b'D' => Request::Image,
+            b'E' => Request::CommitForecast(fields.number()),
+            b'G' => Request::FaultForecast(fields.number()),
+            b'O' => Request::Order,
+            b'K' => Request::Context(fields.number()),
+            b'S' => Request::Same,
+            b'M' => Request::Remember,
+            b'L' => Request::Lend(k),
+            b'P' => Request::SetByte(k, (fields.number() % 256) as u8),
+            b'Q' => Request::SetNumber(k, (fields.number() % 65536) as u16),
+            _ => Request::Remark,
+        }
+    }
+}
+
+// What stands for the board in an access by the port. It is told by its first letter; no number begins with one.
+const PORT: &[u8] = b"port";
+
+// A field of a line: a number, or the word for the port.
 #[derive(Clone, Copy)]
-struct Place {
-    value: usize,
-    port: bool,
-    end: usize,
+enum Field {
+    Number(usize),
+    Port,
 }
 
-// What stands for the board in an access by the port.
-const PORT: [u8; 4] = *b"port";
-
-// Whether a field is that word, by its first letter; no number begins with one.
-fn is_port(field: &[u8]) -> bool {
-    if field.len() == 0 {
-        return false;
-    }
-    field[0] == PORT[0]
+// The fields of a line that are still to be read: a comma's place, and the next one behind it.
+#[derive(Clone, Copy)]
+struct Fields<'a> {
+    behind: &'a [u8],
 }
 
-// The field behind that place, where a comma stands: 0 where there is none, and for the word `port`. Behind a field
-// that is neither that word nor a number nothing is read.
-fn field_behind(line: &[u8], comma: usize) -> Place {
-    let most = line.len();
-    let none = Place {
-        value: 0,
-        port: false,
-        end: most,
-    };
-    if comma >= most {
-        return none;
+impl Fields<'_> {
+    // The next field, if there is one. Behind a field that is neither a number nor the word nothing is read.
+    fn next(&mut self) -> Option<Field> {
+        let (_, field) = self.behind.split_first()?;
+        self.behind = &[];
+        let (value, length) = read_field(field)?;
+        self.behind = field.get(length..).unwrap_or(&[]);
+        Some(value)
     }
-    let from = comma + 1;
-    if is_port(&line[from..]) {
-        return Place {
-            value: 0,
-            port: true,
-            end: part_end(from, PORT.len(), most),
+
+    fn number(&mut self) -> usize {
+        match self.next() {
+            Some(Field::Number(value)) => value,
+            Some(Field::Port) | None => 0,
+        }
+    }
+
+    fn requester(&mut self) -> Requester {
+        match self.next() {
+            Some(Field::Number(board)) => Requester::Board(board),
+            Some(Field::Port) => Requester::Port,
+            None => Requester::Board(0),
+        }
+    }
+
+    fn format(&mut self) -> Call {
+        let shape = Shape {
+            boards: self.number(),
+            size: self.number(),
+            blocks: self.number(),
+            context: self.number(),
         };
+        Call::Format {
+            shape,
+            length: self.number(),
+        }
     }
-    let Field::Number(value, n) = read_number(&line[from..]) else {
-        return none;
-    };
-    Place {
-        value,
-        port: false,
-        end: part_end(from, n, most),
+
+    fn read(&mut self) -> Call {
+        Call::Read {
+            by: self.requester(),
+            cell: self.number(),
+            n: self.number(),
+            room: self.number(),
+        }
+    }
+
+    fn write(&mut self) -> Call {
+        Call::Write {
+            by: self.requester(),
+            cell: self.number(),
+            n: self.number(),
+            first: self.number(),
+        }
+    }
+
+    fn start(&mut self) -> Call {
+        Call::Start {
+            board: self.number(),
+            n: self.number(),
+            first: self.number(),
+        }
+    }
+
+    fn acknowledge(&mut self) -> Call {
+        Call::Acknowledge {
+            board: self.number(),
+            n: self.number(),
+            first: self.number(),
+        }
+    }
+
+    fn fault(&mut self) -> Call {
+        Call::Fault {
+            board: self.number(),
+        }
     }
 }
 
-pub fn request_of(line: &[u8]) -> Request {
-    if line.len() == 0 {
-        return Request {
-            letter: REMARK,
-            port: false,
-            k: 0,
-            a: 0,
-            b: 0,
-            c: 0,
-            d: 0,
-            e: 0,
-        };
+// The field at the front, with its length.
+fn read_field(s: &[u8]) -> Option<(Field, usize)> {
+    if s.starts_with(&PORT[..1]) {
+        return Some((Field::Port, PORT.len()));
     }
-    let letter = line[0];
-    let k = field_behind(line, 1);
-    let a = field_behind(line, k.end);
-    let b = field_behind(line, a.end);
-    let c = field_behind(line, b.end);
-    let d = field_behind(line, c.end);
-    let e = field_behind(line, d.end);
-    Request {
-        letter,
-        port: a.port,
-        k: k.value,
-        a: a.value,
-        b: b.value,
-        c: c.value,
-        d: d.value,
-        e: e.value,
-    }
-}
-
-// The smaller of two numbers.
-pub fn at_most(n: usize, most: usize) -> usize
-    ensures { (result ≤ n) × (result ≤ most) }
-{
-    if n > most { most } else { n }
-}
-
-// Where a part of n bytes that begins at `first` ends, in a text of the length `most`.
-pub fn part_end(first: usize, n: usize, most: usize) -> usize
-    requires { first ≤ most }
-    ensures { (first ≤ result) × (result ≤ most) }
-{
-    let rest = most - first;
-    if n > rest { most } else { first + n }
+    let number = read_number(s)?;
+    Some((Field::Number(number.value), number.length))
 }

@@ -77,14 +77,12 @@ pub fn next_tagged(image: &[u8], s: Shape, b: usize) -> usize
         × ((j : ℕ) → b ≤ j → j < result → get_or image.now (tags_at + j) 0 ≡ 0)
         × ((result ≡ s.blocks) ⊎ (get_or image.now (tags_at + result) 0 ≢ 0)) }
 {
-    let mut i = past_eights(image, s, b);
-    while i < s.blocks {
+    for i in past_eights(image, s, b)..s.blocks {
         if image[TAGS + i] != 0 {
             return i;
         }
-        i += 1;
     }
-    i
+    s.blocks
 }
 
 // All blocks, ascending; those without a writer are passed over.

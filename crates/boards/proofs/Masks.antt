@@ -2,21 +2,19 @@
 use Prim.Native.Nat.{ℕ, zero, suc, ◌+◌, ◌-◌, ◌*◌, ◌/◌, ◌%◌, ◌^◌, ◌≤◌, ◌<◌, min, max}
 use mathlib.Core.Path.{◌≡◌, refl, sym, ◌∙◌, ap, ap₂}
 use mathlib.Core.Bool.{Bool, true, false, ◌&&◌, ◌||◌, not, and_comm, or_comm}
-use mathlib.Core.List.{List, [], ◌∷◌, ◌++◌}
+use mathlib.Core.List.{List}
 use mathlib.Core.Logic.{◌⊎◌, inl, inr}
 use mir.Syntax.{w16}
 use mir.Val.{Fits}
 use lib.Dec.{leb, eqb, lit<, eqb-zero-suc, eqb-suc-zero, eqb-suc-suc}
 use lib.Bits.{bit_and, bit_or, and_step, or_step, or_lt, and_lt}
 use lib.Count.{count_trailing_zeros, under}
-use lib.ListN.{length, get_or, set, drop, length-set}
-use lib.Seq.{ext_get_or, get_or-set_same, get_or-set_other, drop-cons, set_at, append_snoc}
+use lib.ListN.{length, get_or, set, length-set}
+use lib.Seq.{ext_get_or, get_or-set_same, get_or-set_other}
 use lib.Pow.{shl_exact, pow_pos, pow-lt}
 use native.Mathlib.Omega.{arith}
 use native.Mathlib.Nat.{pow-suc, one-mul, div-eq_of_lt, div-lt_iff_lt-mul}
-use native.Mathlib.Numerals.{add-one}
 use borrow.Author.Tests.{eq-eqb, ne_eqb, eqb-true, eqb-false, leb-true, leb-false}
-use Rattle.boards.specs.Lists.{for}
 use Rattle.boards.specs.Boards.{has, mask, set_of, single, with_board, meets, within, beyond, tagged_in, Links}
 use Rattle.boards.specs.Boards.{link, unlink}
 use Rattle.boards.specs.Rows.{links_of, rows_of, union, minus}
@@ -250,14 +248,3 @@ emptied_other row a g s t e =
     and_minus row g s t
     ∙ mask_ext 16 _ _ (λ j l. and_comm (has row j) (not (has g j))
     ∙ sym (ap (λ t. not t && (not (has g j) && has row j)) e))
-
--- an array whose first n elements are f 0, f 1, .. and whose others are those of xs
-abbrev pub filled : (ℕ → ℕ) → List ℕ → ℕ → List ℕ
-filled f xs n = for n (λ a. f a ∷ []) ++ drop n xs
-
-pub filled_more : (f : ℕ → ℕ) (xs : List ℕ) (n : ℕ) → n < length xs →
-    set (filled f xs n) n (f n) ≡ filled f xs (n + 1)
-unfolding for
-filled_more f xs n l =
-    let front = for n (λ a. f a ∷ []) in
-    rw (add-one, drop-cons xs n 0) (set_at front _ _ (f n) n (length_for f n) ∙ sym (append_snoc front (f n) _))

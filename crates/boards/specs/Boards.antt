@@ -1,9 +1,7 @@
 -- Sets of boards, tags, dependences between boards, and groups (document 01, "The image", "The record", "Groups").
 use Rattle.std.specs.Prelude.{ℕ, zero, suc, ◌+◌, ◌*◌, ◌/◌, ◌%◌, ◌^◌, ◌<◌, ◌≡◌, Bool, true, false, ◌&&◌, ◌||◌, not}
-use Rattle.std.specs.Prelude.{cond, ◌⊎◌, ◌↔◌, eqb, leb}
+use Rattle.std.specs.Prelude.{cond, ◌⊎◌, ◌↔◌, eqb, leb, Option, None, Some}
 use Rattle.boards.specs.Lists.{any, every}
-use Rattle.boards.specs.declared.Writer.{Writer}
-use Rattle.boards.specs.declared.Writer.TheVariants.{Nobody, Board}
 
 -- ---- sets: a set of boards is a number, bit j for board j
 
@@ -39,9 +37,9 @@ beyond p g = any 16 (λ j. leb p j && has g j)
 
 -- ---- tags: a block's tag is 0 for no active writer, j + 1 for writer j
 
-abbrev pub tag_of : Writer → ℕ
-tag_of Nobody = 0
-tag_of (Board j) = suc j
+abbrev pub tag_of : Option ℕ → ℕ
+tag_of None = 0
+tag_of (Some j) = suc j
 
 -- the tag names a member of g; it names a writer
 unfoldable pub tagged_in : ℕ → ℕ → Bool

@@ -1,5 +1,5 @@
 -- The sixteen rows taken as one value (document 01, "The record" and "Groups").
-use Rattle.std.specs.Prelude.{ℕ, ◌≡◌, Bool, true, false, ◌&&◌, ◌||◌, not, List, [], ◌∷◌, get_or}
+use Rattle.std.specs.Prelude.{ℕ, ◌≡◌, ◌&&◌, ◌||◌, not, List, [], ◌∷◌, get_or}
 use Rattle.boards.specs.Lists.{for}
 use Rattle.boards.specs.Boards.{has, set_of, Links, unlink}
 use Rattle.boards.specs.declared.Closure.{Closure}
@@ -20,11 +20,6 @@ emptied rows g = rows_of (unlink (has g) (links_of rows))
 pub record Grouped (rows : List ℕ) (g : ℕ) (c : Closure) : Type 0 where
   pub members : c.members ≡ g
   pub left : c.rows ≡ emptied rows g
-
--- the dependences themselves, or turned: who depends on whom
-unfoldable pub turned : Bool → Links → Links
-turned true d = λ a b. d b a
-turned false d = d
 
 -- the boards of g and of h; those of g that are not in h
 abbrev pub union : ℕ → ℕ → ℕ

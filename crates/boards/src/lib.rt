@@ -3,13 +3,6 @@
 pub mod rows;
 pub mod sets;
 
-// Whom a block's tag names.
-#[derive(Clone, Copy)]
-pub enum Writer {
-    Nobody,
-    Board(u8),
-}
-
 // A group of boards, and the rows when its rows and columns are emptied.
 #[derive(Clone, Copy)]
 pub struct Closure {

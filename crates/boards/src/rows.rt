@@ -4,6 +4,7 @@ ghost use Rattle.boards.specs.Boards.{has, set_of, unlink};
 ghost use Rattle.boards.specs.Rows.{emptied, Grouped};
 
 use crate::{Closure, sets};
+use std::array;
 
 // Row a when the rows and the columns of the boards of g are emptied.
 fn emptied_row(row: u16, a: u8, g: u16) -> u16
@@ -16,15 +17,7 @@ fn emptied_row(row: u16, a: u8, g: u16) -> u16
 fn emptied(rows: [u16; 16], g: u16) -> [u16; 16]
     ensures { result ≡ emptied rows g }
 {
-    let mut left = [0u16; 16];
-    let mut a: u8 = 0;
-    while a < 16 {
-        let at = a as usize;
-        let row = rows[at];
-        left[at] = emptied_row(row, a, g);
-        a += 1;
-    }
-    left
+    array::from_fn(move |a| emptied_row(rows[a], a as u8, g))
 }
 
 // The group g, and the rows with its rows and columns emptied.

@@ -3,8 +3,6 @@ ghost use Rattle.std.specs.Prelude.{◌≡◌, true, ◌<◌};
 ghost use Rattle.boards.specs.Boards.{has, single, with_board, meets, within, beyond, tag_of, tagged_in};
 ghost use Rattle.boards.specs.Rows.{union, minus};
 
-use crate::Writer;
-
 pub fn has(g: u16, j: u8) -> bool
     requires { j < 16 }
     ensures { result ≡ has g j }
@@ -72,24 +70,18 @@ pub fn beyond(p: u8, g: u16) -> bool
 }
 
 // The active writer that a tag names.
-pub fn writer_of(tag: u8) -> Writer
+pub fn writer_of(tag: u8) -> Option<u8>
     ensures { tag ≡ tag_of result }
 {
-    if tag == 0 {
-        return Writer::Nobody;
-    }
-    Writer::Board(tag - 1)
+    tag.checked_sub(1)
 }
 
 // Whether a tag names a member of g.
 pub fn tagged_in(g: u16, tag: u8) -> bool
     ensures { result ≡ tagged_in g tag }
 {
-    let Writer::Board(j) = writer_of(tag) else {
-        return false;
-    };
-    if j >= 16 {
-        return false;
+    match writer_of(tag) {
+        Some(j) if j < 16 => has(g, j),
+        _ => false,
     }
-    has(g, j)
 }

@@ -1,207 +1,179 @@
 // Plays one line.
-ghost use Rattle.std.specs.Prelude.{◌≤◌, length};
+ghost use Rattle.std.specs.Prelude.{◌≤◌};
 
-use bench::calls::call;
+use bench::calls::Call;
 use bench::records::changed;
-use bench::requests::{Request, at_most, request_of};
-use bench::{letters, tell};
-use cuts::area::{BEFORE, OTHER, PART, copy};
-use cuts::every::every_cut;
-use text::{ACKNOWLEDGE, FAULT, FORMAT, POWER_UP, READ, START, WRITE};
+use bench::requests::Request;
+use bench::tell::{Buffer, FILL, Hex, Masks, Told, record_change, same_or_changed};
+use costs::Forecast;
+use cuts::every::{Cuts, make_whole};
+use protocol::Refusal;
+use std::alloc::{AllocError, Global};
 use volatile::Record;
 
-// What stands between two requests: the record, and what lines have set.
-#[derive(Clone, Copy)]
+// The bytes that stand ready; the image lent is the first part of them.
+const ROOM: usize = 36000;
+
+// What stands between two requests.
+#[derive(Drop)]
 pub struct Bench {
-    pub state: Record,
-    pub settings: Settings,
+    image: [u8; ROOM],
+    // The image remembered or, from the last call that was cut at every k on, the one that it leaves uncut.
+    other: [u8; ROOM],
+    // How many bytes of the image are to be lent.
+    length: usize,
+    state: Record,
+    // Whether a call cut at every k shows the images that it leaves.
+    shown: bool,
 }
 
-// The length of the image that is lent, and whether the lines of a call cut at every k end in the image.
-#[derive(Clone, Copy)]
-pub struct Settings {
-    pub length: usize,
-    pub shown: bool,
-}
+impl Bench {
+    pub fn new() -> Bench {
+        Bench {
+            image: [0; ROOM],
+            other: [0; ROOM],
+            length: 0,
+            state: Record::off(),
+            shown: false,
+        }
+    }
 
-// A call, its answer, and what changed.
-fn call_line(rt: &impl Print, area: &mut [u8], n: usize, r: Request, old: Record) -> Record
-    requires { (144000 ≤ length area.old) × (n ≤ 36000) }
-{
-    copy(area, 0, BEFORE, PART);
-    let mut buffer = [tell::FILL; 80];
-    let reply = call(&mut area[0..n], old, r, &mut buffer);
-    let answer = reply.answer;
-    let next = reply.next;
-    tell::answer(rt, answer);
-    tell::changes(rt, &area[0..PART], &area[BEFORE..OTHER], next, old);
-    tell::buffer(rt, &buffer, r.c);
-    next
-}
+    // Writes a line and its answer. That they could not be written is told by the output alone.
+    pub fn play(&mut self, rt: &impl Print, alloc: Global, line: &[u8]) -> Result<(), AllocError> {
+        let _ = rt.write_all(line);
+        let request = Request::parse(line);
+        self.set(request);
+        match request {
+            Request::Call(call, k) => self.call(rt, call, k),
+            Request::EveryCut(call) => return self.every_cut(rt, alloc, call),
+            Request::CommitForecast(board) => {
+                tell_forecast(
+                    rt,
+                    forecast::commit_forecast(self.lent(), self.state, board),
+                );
+            }
+            Request::FaultForecast(board) => {
+                tell_forecast(rt, forecast::fault_forecast(self.lent(), self.state, board));
+            }
+            Request::Order => tell_order(rt, self.lent(), self.state),
+            Request::Context(board) => tell_context(rt, self.lent(), board),
+            Request::Same => tell_same(rt, self.lent(), &self.other[..self.lent_length()]),
+            Request::Image => tell_image(rt, self.lent()),
+            _ => {
+                let _ = rt.write_all(b"\n");
+            }
+        }
+        Ok(())
+    }
 
-fn context_line(rt: &impl Print, image: &[u8], board: usize) {
-    let mut status = 255u8;
-    let part = inspect::context(image, board, &mut status);
-    tell::put(rt, b" :");
-    tell::number(rt, status as u64);
-    tell::bytes_line(rt, b" ", part);
-}
+    // What a line sets before it is answered.
+    fn set(&mut self, request: Request) {
+        match request {
+            Request::Call(Call::Format { length, .. }, _)
+            | Request::EveryCut(Call::Format { length, .. })
+            | Request::Lend(length) => self.length = length,
+            Request::Show(shown) => self.shown = shown,
+            Request::Remember => {
+                let image = self.image;
+                self.other = image;
+            }
+            Request::SetByte(at, byte) => self.set_byte(at, byte),
+            Request::SetNumber(place, number) => self.state = changed(self.state, place, number),
+            _ => {}
+        }
+    }
 
-fn same_line(rt: &impl Print, image: &[u8], other: &[u8]) {
-    let answer = inspect::same(image, other);
-    tell::put(rt, b" :");
-    tell::number(rt, answer.status as u64);
-    tell::number(rt, tell::flag(answer.same));
-    tell::put(rt, b"\n");
+    fn set_byte(&mut self, at: usize, byte: u8) {
+        if let Some(old) = self.image.get_mut(at) {
+            *old = byte;
+        }
+    }
+
+    // How many bytes are lent: as many as are to be, or all.
+    fn lent_length(&self) -> usize
+        ensures { result ≤ 36000 }
+    {
+        self.length.min(ROOM)
+    }
+
+    fn lent(&self) -> &[u8] {
+        &self.image[..self.lent_length()]
+    }
+
+    // A call, its answer, and what changed.
+    fn call(&mut self, rt: &impl Print, call: Call, k: usize) {
+        let n = self.lent_length();
+        let state = self.state;
+        let before = self.image;
+        let mut bytes = [FILL; 80];
+        let reply = call.make(&mut self.image[..n], state, k, &mut bytes);
+        let answer = Told(reply.answer);
+        let image = same_or_changed(self.image == before);
+        let record = record_change(reply.next, state);
+        let buffer = Buffer {
+            bytes: &bytes,
+            n: call.read_length(),
+        };
+        let _ = println!(rt; " : {answer} image {image}, record {record}, buffer {buffer}");
+        self.state = reply.next;
+    }
+
+    // A call cut at every k. Image and record stay as they were.
+    fn every_cut(&mut self, rt: &impl Print, alloc: Global, call: Call) -> Result<(), AllocError> {
+        let n = self.lent_length();
+        let state = self.state;
+        let shown = self.shown;
+        let image = self.image;
+        let before = &image[..n];
+        let after = &mut self.other[..n];
+        after.copy_from_slice(before);
+        make_whole(call, after, state);
+        let cuts = Cuts {
+            call,
+            state,
+            before,
+            after,
+        };
+        let _ = rt.write_all(b"\n");
+        cuts.tell(rt, alloc, shown)
+    }
 }
 
 // A forecast: status, group, stores.
-fn forecast_line(rt: &impl Print, image: &[u8], state: Record, r: Request) {
-    let f = if r.letter == letters::COMMIT_FORECAST {
-        forecast::commit_forecast(image, state, r.a)
-    } else {
-        forecast::fault_forecast(image, state, r.a)
+fn tell_forecast(rt: &impl Print, forecast: Result<Forecast, Refusal>) {
+    let (status, group, stores) = match forecast {
+        Ok(forecast) => (0, forecast.group, forecast.stores),
+        Err(why) => (why.number(), 0, 0),
     };
-    tell::put(rt, b" :");
-    tell::number(rt, f.status as u64);
-    tell::mask(rt, f.group);
-    tell::number(rt, f.stores as u64);
-    tell::put(rt, b"\n");
-}
-
-fn masks_line(rt: &impl Print, masks: [u16; 16]) {
-    for x in 0..16 {
-        let mask = masks[x];
-        tell::mask(rt, mask);
-    }
-    tell::put(rt, b"\n");
+    let _ = println!(rt; " : {status} {group:04x} {stores}");
 }
 
 // The order: status, count, all masks that were lent.
-fn order_line(rt: &impl Print, image: &[u8], state: Record) {
-    let mut masks = [61166u16; 16];
-    let answer = order::order(image, state, &mut masks);
-    tell::put(rt, b" :");
-    tell::number(rt, answer.status as u64);
-    tell::number(rt, answer.count as u64);
-    masks_line(rt, masks);
+fn tell_order(rt: &impl Print, image: &[u8], state: Record) {
+    let mut masks = [0xeeee; 16];
+    let (status, count) = match order::order(image, state, &mut masks) {
+        Ok(count) => (0, count),
+        Err(why) => (why.number(), 0),
+    };
+    let masks = Masks(&masks);
+    let _ = println!(rt; " : {status} {count}{masks}");
 }
 
-// A line that is no call of the module but for Context and Same, and leaves the record.
-fn other_line(rt: &impl Print, area: &mut [u8], n: usize, r: Request)
-    requires { (144000 ≤ length area.old) × (n ≤ 36000) }
-{
-    if r.letter == letters::CONTEXT {
-        context_line(rt, &area[0..n], r.a);
-        return;
-    }
-    if r.letter == letters::SAME {
-        let end = OTHER + n;
-        same_line(rt, &area[0..n], &area[OTHER..end]);
-        return;
-    }
-    if r.letter == letters::IMAGE {
-        tell::bytes_line(rt, b" : ", &area[0..n]);
-        return;
-    }
-    tell::put(rt, b"\n");
-    if r.letter == letters::REMEMBER {
-        copy(area, 0, OTHER, PART);
-        return;
-    }
-    if r.letter != letters::CHANGE_BYTE {
-        return;
-    }
-    let at = r.k;
-    if at < PART {
-        area[at] = (r.a % 256) as u8;
-    }
+fn tell_context(rt: &impl Print, image: &[u8], board: usize) {
+    let mut status = 255;
+    let context = Hex(inspect::context(image, board, &mut status));
+    let _ = println!(rt; " : {status} {context}");
 }
 
-fn is_call(letter: u8) -> bool {
-    match letter {
-        FORMAT | READ | WRITE | START | ACKNOWLEDGE | FAULT | POWER_UP => true,
-        _ => false,
-    }
+fn tell_same(rt: &impl Print, image: &[u8], other: &[u8]) {
+    let (status, same) = match inspect::same(image, other) {
+        Ok(same) => (0, u8::from(same)),
+        Err(why) => (why.number(), 0),
+    };
+    let _ = println!(rt; " : {status} {same}");
 }
 
-// The call that a letter cuts at every k; any other letter is as it was.
-fn whole(letter: u8) -> u8 {
-    match letter {
-        letters::CUT_FORMAT => FORMAT,
-        letters::CUT_WRITE => WRITE,
-        letters::CUT_START => START,
-        letters::CUT_ACKNOWLEDGE => ACKNOWLEDGE,
-        letters::CUT_FAULT => FAULT,
-        _ => letter,
-    }
-}
-
-// What a line sets before it is played: F, f and L the length that is lent, I whether images are shown.
-fn set_by(r: Request, before: Settings) -> Settings {
-    let mut next = before;
-    let letter = r.letter;
-    match letter {
-        FORMAT | letters::CUT_FORMAT => {
-            next.length = r.e;
-        }
-        letters::LENGTH => {
-            next.length = r.k;
-        }
-        letters::SHOW => {
-            next.shown = r.k == 1;
-        }
-        _ => {}
-    }
-    next
-}
-
-// Plays a request; the record after it.
-fn play_request(
-    rt: &impl Print,
-    area: &mut [u8],
-    n: usize,
-    r: Request,
-    state: Record,
-    shown: bool,
-) -> Record
-    requires { (144000 ≤ length area.old) × (n ≤ 36000) }
-{
-    if is_call(r.letter) {
-        return call_line(rt, area, n, r, state);
-    }
-    if r.letter == letters::COMMIT_FORECAST || r.letter == letters::FAULT_FORECAST {
-        forecast_line(rt, &area[0..n], state, r);
-        return state;
-    }
-    if r.letter == letters::ORDER {
-        order_line(rt, &area[0..n], state);
-        return state;
-    }
-    let letter = whole(r.letter);
-    if letter != r.letter {
-        tell::put(rt, b"\n");
-        let mut asked = r;
-        asked.letter = letter;
-        every_cut(rt, area, n, state, asked, shown);
-        return state;
-    }
-    other_line(rt, area, n, r);
-    if r.letter == letters::CHANGE_RECORD {
-        return changed(state, r.k, (r.a % 65536) as u16);
-    }
-    state
-}
-
-pub fn play_line(rt: &impl Print, line: &[u8], area: &mut [u8], bench: Bench) -> Bench
-    requires { 144000 ≤ length area.old }
-{
-    tell::put(rt, line);
-    let r = request_of(line);
-    let before = bench.settings;
-    let settings = set_by(r, before);
-    let n = at_most(settings.length, PART);
-    let old = bench.state;
-    let state = play_request(rt, area, n, r, old, settings.shown);
-    Bench { state, settings }
+fn tell_image(rt: &impl Print, image: &[u8]) {
+    let image = Hex(image);
+    let _ = println!(rt; " : {image}");
 }

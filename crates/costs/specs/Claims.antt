@@ -9,9 +9,8 @@ use Rattle.protocol.specs.Image.{shape_of}
 use Rattle.protocol.specs.Calls.{Request, Read, Write, Start, Acknowledge, Fault, PowerUp, perform}
 use Rattle.protocol.specs.Claim.{Call}
 use Rattle.protocol.specs.declared.Shape.{Shape}
-use Rattle.protocol.specs.declared.Answer.{Answer}
-use Rattle.costs.specs.Forecasts.{those, commit_forecast, fault_forecast}
-use Rattle.costs.specs.declared.Forecast.{Forecast}
+use Rattle.protocol.specs.Answers.{Answer}
+use Rattle.costs.specs.Forecasts.{Forecast, those, commit_forecast, fault_forecast}
 
 abbrev pub answer_of : List ℕ → Record → Request → ℕ → Answer
 answer_of image r request k = (perform image r request k).reply.answer

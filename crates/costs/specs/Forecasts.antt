@@ -1,13 +1,22 @@
 -- The forecasts of a commit and of a fault, read off image and record (document 02, Req 02).
-use Rattle.std.specs.Prelude.{ℕ, ◌+◌, ◌*◌, Bool, not, cond, List, [], ◌∷◌, ◌++◌, eqb, length}
+use Rattle.std.specs.Prelude.{ℕ, ◌+◌, ◌*◌, Bool, not, cond, List, [], ◌∷◌, ◌++◌, eqb, length, Result, Ok, Err}
 use Rattle.boards.specs.Lists.{for}
 use Rattle.boards.specs.Boards.{has, tagged_in, commit_group, fault_group}
 use Rattle.volatile.specs.Volatile.{depends, engaged}
 use Rattle.volatile.specs.declared.Record.{Record}
 use Rattle.protocol.specs.Image.{Memory, Tags, shape_of, view}
 use Rattle.protocol.specs.Calls.{Test, test, first, entry_tests}
+use Rattle.protocol.specs.Refusals.{number_of}
+use Rattle.protocol.specs.declared.Refusal.{Refusal}
 use Rattle.protocol.specs.declared.Shape.{Shape}
-use Rattle.costs.specs.declared.Forecast.{Forecast}
+use Rattle.costs.specs.declared.Forecast.{Forecast as Taken}
+
+-- a forecast in the numbers of the documents: 0 or the number of its refusal; the members of the commit or the boards
+-- to be rolled back; how many bytes will be stored
+pub record Forecast : Type 0 where
+  pub status : ℕ
+  pub group : ℕ
+  pub stores : ℕ
 
 -- the numbers below n of which p holds, ascending
 unfoldable pub those : ℕ → (ℕ → Bool) → List ℕ
@@ -34,6 +43,11 @@ commit_cost s m g =
 -- a refusal: its number, zero for the rest
 abbrev pub refused : ℕ → Forecast
 refused n = record { status = n; group = 0; stores = 0 }
+
+-- what the code's forecast is in these numbers
+abbrev pub forecast_says : Result Taken Refusal → Forecast
+forecast_says (Ok f) = record { status = 0; group = f.group; stores = f.stores }
+forecast_says (Err e) = refused (number_of e)
 
 -- what is answered if n is the number of the refusal, 0 for none
 unfoldable pub answered : ℕ → ℕ → ℕ → Forecast

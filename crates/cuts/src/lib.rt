@@ -1,4 +1,3 @@
 #![tactic(auto)]
-// A call of the module cut at every store, for the program `cases`, and the area that it is played on.
-pub mod area;
+// A call of the module cut at every store, for the program `cases`.
 pub mod every;

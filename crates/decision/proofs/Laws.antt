@@ -27,6 +27,8 @@ use Rattle.store.specs.Runs.{put_stores}
 use Rattle.store.specs.declared.Budget.{Budget}
 use Rattle.store.specs.Puts.{Puts}
 use Rattle.store.specs.Promise.{reply_of}
+use Rattle.protocol.specs.Answers.{reply_says}
+use Rattle.protocol.specs.declared.Reply.{Reply}
 use Rattle.store.proofs.Laws.{well_start, makes_refused, makes_well, makes_length, makes_then}
 use Rattle.store.proofs.Areas.{placing_stores}
 use Rattle.store.proofs.Chains.{then_puts, then_reads}
@@ -95,14 +97,14 @@ module _ {s : Shape} {x : List ℕ} (i : ℕ) (context : List ℕ) {k : ℕ} (bo
     (given : Puts s (placing Tentative (i * s.context) context) (whole k) x b y)
   where
     -- some have not: nothing is decided
-    pub awaits : (commit_of r i).acknowledged ≢ g
-        → Executed s (acknowledging s (view s x) before i context) k x (reply_of k b false g r) y
+    pub awaits : {reply : Reply} → reply_says reply ≡ reply_of k b false g r → (commit_of r i).acknowledged ≢ g
+        → Executed s (acknowledging s (view s x) before i context) k x reply y
     unfolding acknowledging
-    awaits e =
+    awaits f e =
         let ps = placing Tentative (i * s.context) context in
         let inside = given_inside s i context board full in
         let both = made_outcome g r [] false given.makes (inside_quiet s k inside) in
-        rw (← same, ← members, ne_eqb _ _ e, append-nil) (record { reply = both.0; image = both.1 })
+        rw (← same, ← members, ne_eqb _ _ e, append-nil) (record { reply = f ∙ both.0; image = both.1 })
 
     module _ {told : Budget} {z : List ℕ} (announced : Puts s (group_puts g) b y told z) where
       -- the commit is decided if the third store after the context was made
@@ -119,17 +121,18 @@ module _ {s : Shape} {x : List ℕ} (i : ℕ) (context : List ℕ) {k : ℕ} (bo
           ap not short ∙ not_ltb k (length context + 3) ∙ sym (decides_third s m i g context board full k)
 
       -- all have: the commit is decided and completed
-      pub commits_all : {left : Budget} {w : List ℕ} {next : Record} → length x ≡ total s
+      pub commits_all : {left : Budget} {w : List ℕ} {next : Record} {reply : Reply}
+          → reply_says reply ≡ reply_of k left (not told.cut) g next → length x ≡ total s
           → (commit_of r i).acknowledged ≡ g → next ≡ clear r g
           → Puts s (completing s (view s z) g) told z left w
-          → Executed s (acknowledging s (view s x) before i context) k x (reply_of k left (not told.cut) g next) w
+          → Executed s (acknowledging s (view s x) before i context) k x reply w
       unfolding acknowledging
-      commits_all {next = next} long e f completed =
+      commits_all {next = next} h long e f completed =
           let ps = placing Tentative (i * s.context) context in
           let valid = inside_valid (given_inside s i context board full) in
           let all = composed long (well_start refl) ps g valid given announced completed in
           let both = made_outcome g next [] (not told.cut) all.makes decided in
-          rw (← same, ← members, eq-eqb _ _ e, ← f) (record { reply = both.0; image = both.1 })
+          rw (← same, ← members, eq-eqb _ _ e, ← f) (record { reply = h ∙ both.0; image = both.1 })
 
 -- what is left at the end is no more than there was
 pub left_all : {s : Shape} {ps qs rs : List Put} {k : ℕ} {b b' b'' : Budget} {x y z w : List ℕ}

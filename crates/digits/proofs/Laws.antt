@@ -9,10 +9,12 @@ use lib.Seq.{take_at, drop_at, drop-drop, length-take-le, set_split, take-suc}
 use native.Mathlib.Omega.{arith}
 use native.Mathlib.Nat.{add-zero, add_assoc}
 use native.Mathlib.Numerals.{add-one}
+use borrow.Rule.Slice.PartMut.{put_mid}
 use borrow.Author.Tests.{le-leb, lt-leb}
 use Rattle.boards.proofs.Basics.{if_true, if_false}
 use Rattle.text.specs.Rows.{digit_at, decimal, byte_text, bytes_text, group_text}
-use Rattle.digits.specs.Append.{placed, Appends}
+use Rattle.digits.specs.Append.{placed, Appends, Writes}
+use Rattle.digits.specs.declared.Output.{Output}
 
 -- ---- writing
 
@@ -20,6 +22,11 @@ pub appends_none : (b : List ℕ) (at : ℕ) → at ≤ length b → Appends [] 
 unfolding placed
 appends_none b at l =
     record { place = omega arith; room = l; buffer = rw (add-zero at) (sym (take-append-drop at b)) }
+
+-- a part of the buffer, of k bytes, that was overwritten by a text as long
+pub placed_part : (b ys t : List ℕ) (at k : ℕ) → ys ≡ t → k ≡ length t → put_mid at k b ys ≡ placed at t b
+unfolding placed
+placed_part b ys t at k e f = rw (e, f, drop-drop)
 
 -- one character; r is what the code computes for the place after it
 pub appends_one : (b : List ℕ) (at c : ℕ) {r : ℕ} → at < length b → r ≡ at + 1 → Appends (c ∷ []) at b r (set b at c)
@@ -55,9 +62,19 @@ module _ {t : List ℕ} {at : ℕ} {b : List ℕ} {r : ℕ} {x : List ℕ} (m : 
         buffer = n.buffer ∙ rw (take_x, drop_x, length-append, ← add_assoc, ← m.place) (simp append_assoc);
       }
 
-  -- and one character more
-  pub appends_more : (c : ℕ) {r' : ℕ} → r < length b → r' ≡ r + 1 → Appends (t ++ c ∷ []) at b r' (set x r c)
-  appends_more c l e = appends_then (appends_one x r c (omega (arith, appends_length)) e)
+-- ---- a lent buffer
+
+-- what was put into it from its end on
+pub writes : {t : List ℕ} {before after : Output} → after.buffer.ghost_name ≡ before.buffer.ghost_name
+    → Appends t before.end before.buffer.now after.end after.buffer.now → Writes t before after
+writes same m = record { same = same; appends = m; long = appends_length m }
+
+pub writes_none : (out : Output) → out.end ≤ length out.buffer.now → Writes [] out out
+writes_none out l = writes refl (appends_none out.buffer.now out.end l)
+
+-- one text and then another
+pub writes_then : {t u : List ℕ} {a b c : Output} → Writes t a b → Writes u b c → Writes (t ++ u) a c
+writes_then m n = writes (n.same ∙ m.same) (appends_then m.appends n.appends)
 
 -- ---- lengths
 

@@ -2,90 +2,55 @@
 // How a run ends: at the limit of 99,999 lines, whose last is cut, by errors of the system, a page at these and at its
 // limit of 9,999 commits, and an order. Each run is told in a line, and the last lines of some follow. The long events
 // and what is printed of them are files of the folder that the program is run in.
-ghost use Rattle.std.specs.Prelude.{◌≤◌, length};
 ghost use Rattle.reports.specs.Tasks.{Fits};
 
 use reports::Task;
+use std::alloc::Global;
 use std::fs::{File, OpenOptions};
 use std::io;
 use std::io::{Read, Seek, SeekFrom, Write};
 use std::rt::Files;
-use stream::Ended;
+use stream::Failure;
 
 // Opens the file of a name for appending; it can't be read.
 fn open_append<R: Files>(rt: &R, name: &str) -> io::Result<R::File> {
     OpenOptions::new().append(true).open(rt, name)
 }
 
-// Reads until the buffer is full, the input ends or a read fails; how many bytes it put at the buffer's start.
-fn read_full<R: Read>(from: &mut R, buffer: &mut [u8]) -> usize
-    ensures { result ≤ length buffer.new }
-{
-    let mut done = 0;
-    while done < buffer.len() {
-        let n = from.read(&mut buffer[done..]).unwrap_or(0);
-        if n == 0 {
-            break;
-        }
-        done += n;
-    }
-    done
+// The next bytes, at most so many: up to the end or a read that fails.
+fn next_bytes<R: Read + Drop>(alloc: Global, from: R, most: u64) -> Vec<u8> {
+    let mut bytes = Vec::new(alloc);
+    let _ = from.take(most).read_to_end(&mut bytes);
+    bytes
 }
 
-// Writes a line so many times.
-fn repeat<W: Write>(to: &mut W, line: &[u8], times: usize) -> io::Result<()> {
+// Writes a text so many times.
+fn repeat<W: Write>(to: &mut W, text: &[u8], times: usize) -> io::Result<()> {
     for _ in 0..times {
-        to.write_all(line)?;
+        to.write_all(text)?;
     }
     Ok(())
 }
 
-// 100,001 lines, of which the fault in line 99,999 is cut; the last is longer than two pieces of what is read.
-fn write_events<R: Files>(rt: &R) -> io::Result<()> {
-    let mut to = File::create(rt, "long")?;
-    to.write_all(b"F,1,1,1,0\n")?;
-    repeat(&mut to, b"U\n", 99995)?;
-    to.write_all(b"W,0,0,07\nZ,1\nX,0\nR,0,0,1\n")?;
+// Writes texts, each so many times, and a last line that is longer than two pieces of what is read.
+fn write_events<R: Files>(rt: &R, name: &str, texts: &[(&[u8], usize)]) -> io::Result<()> {
+    let mut to = File::create(rt, name)?;
+    for (text, times) in texts {
+        repeat(&mut to, text, *times)?;
+    }
     repeat(&mut to, b"0123456789", 2000)
 }
 
-// A commit in line 99,999 and one in line 100,000; then a line that is longer than two pieces of what is read.
-fn write_late_commits<R: Files>(rt: &R) -> io::Result<()> {
-    let mut to = File::create(rt, "commits")?;
-    to.write_all(b"F,1,1,1,0\n")?;
-    repeat(&mut to, b"U\n", 99997)?;
-    repeat(&mut to, b"C,0,\n", 2)?;
-    repeat(&mut to, b"0123456789", 2000)
-}
-
-// So many commits, each of which saves a cell; then a line that is longer than two pieces of what is read.
-fn write_commits<R: Files>(rt: &R, times: usize) -> io::Result<()> {
-    let mut to = File::create(rt, "commits")?;
-    to.write_all(b"F,1,1,1,0\n")?;
-    repeat(&mut to, b"W,0,0,07\nC,0,\n", times)?;
-    repeat(&mut to, b"0123456789", 2000)
-}
-
-// In line 99,999 board 0 comes to depend on board 1, and in line 100,000 neither would depend on the other any more;
-// then a line that is longer than two pieces of what is read.
-fn write_late_links<R: Files>(rt: &R) -> io::Result<()> {
-    let mut to = File::create(rt, "links")?;
-    to.write_all(b"F,3,1,1,0\n")?;
-    repeat(&mut to, b"U\n", 99996)?;
-    to.write_all(b"W,1,0,07\nR,0,0,1\nX,1\n")?;
-    repeat(&mut to, b"0123456789", 2000)
-}
-
-fn tell(rt: &impl Print, ended: Ended) -> io::Result<()> {
+fn name_of(ended: Result<(), Failure>) -> &'static str {
     match ended {
-        Ended::Played => rt.write_all(b"played"),
-        Ended::InputFailed(_) => rt.write_all(b"input failed"),
-        Ended::OutputFailed(_) => rt.write_all(b"output failed"),
+        Ok(()) => "played",
+        Err(Failure::Input(_)) => "input failed",
+        Err(Failure::Output(_)) => "output failed",
     }
 }
 
 // Plays from one open file to another.
-fn play_files<R: Read, W: Write>(task: Task, from: &mut R, to: &mut W) -> Ended
+fn play_files<R: Read, W: Write>(task: Task, from: &mut R, to: &mut W) -> Result<(), Failure>
     requires { Fits task }
 {
     let mut input = [0u8; 8353];
@@ -95,112 +60,119 @@ fn play_files<R: Read, W: Write>(task: Task, from: &mut R, to: &mut W) -> Ended
 }
 
 // Plays; tells how that ended, and the next two bytes of the input, if any are left.
-fn play<R: Files + Print>(
+fn play<R: Files + Print + AllocGlobal>(
     rt: &R,
-    name: &[u8],
+    name: &str,
     task: Task,
     mut from: R::File,
     mut to: R::File,
 ) -> io::Result<()>
     requires { Fits task }
 {
-    let mut next = [0u8; 2];
-    rt.write_all(name)?;
-    let ended = play_files(task, &mut from, &mut to);
-    tell(rt, ended)?;
-    let n = read_full(&mut from, &mut next);
-    rt.write_all(b", left: ")?;
-    rt.write_all(&next[..n])?;
+    print!(rt; "{name}: ")?;
+    let ended = name_of(play_files(task, &mut from, &mut to));
+    print!(rt; "{ended}, left: ")?;
+    rt.write_all(&next_bytes(rt.alloc(), from, 2))?;
     rt.write_all(b"\n")
 }
 
-// The last bytes that were printed, from an offset on that counts back from the end.
-fn tell_last<R: Files + Print>(rt: &R, offset: i64) -> io::Result<()> {
-    let mut text = [0u8; 96];
+// The last bytes that were printed; a shorter text is told from its first byte on.
+fn tell_last<R: Files + Print + AllocGlobal>(rt: &R, count: u8) -> io::Result<()> {
     let mut file = File::open(rt, "played")?;
-    // Fewer bytes than that are told from the first on.
-    let _ = file.seek(SeekFrom::End(offset));
-    let n = read_full(&mut file, &mut text);
-    rt.write_all(&text[..n])
+    let _ = file.seek(SeekFrom::End(-i64::from(count)));
+    rt.write_all(&next_bytes(rt.alloc(), file, 96))
 }
 
-// `rsmrun`.
-fn play_rows<R: Files + Print>(rt: &R, name: &[u8], from: R::File, to: R::File) -> io::Result<()> {
-    let task = Task::rows();
-    play(rt, name, task, from, to)
-}
-
-// `rsmpage`, and the last three lines that it printed.
-fn play_page<R: Files + Print>(rt: &R, name: &[u8], from: R::File) -> io::Result<()> {
-    let task = Task::page();
+// Plays, and tells the last bytes that were printed.
+fn play_to_last<R: Files + Print + AllocGlobal>(
+    rt: &R,
+    name: &str,
+    task: Task,
+    from: &str,
+    count: u8,
+) -> io::Result<()>
+    requires { Fits task }
+{
+    let from = File::open(rt, from)?;
     play(rt, name, task, from, File::create(rt, "played")?)?;
-    tell_last(rt, -96)
+    tell_last(rt, count)
 }
 
-// `rsmorder`, and the last three lines that it printed.
-fn play_order<R: Files + Print>(rt: &R, name: &[u8], from: R::File) -> io::Result<()> {
-    let task = Task::order();
-    play(rt, name, task, from, File::create(rt, "played")?)?;
-    tell_last(rt, -15)
+// `rsmrun` at the limit of lines, by errors of the system; after a write that failed nothing more is read. A file that
+// is open for writing alone stands for a closed input, one for reading alone for a closed output: the system answers
+// the same.
+fn play_rows<R: Files + Print + AllocGlobal>(rt: &R) -> io::Result<()> {
+    // 100,001 lines, of which the fault in line 99,999 is cut.
+    write_events(
+        rt,
+        "long",
+        &[
+            (b"F,1,1,1,0\n", 1),
+            (b"U\n", 99995),
+            (b"W,0,0,07\nZ,1\nX,0\nR,0,0,1\n", 1),
+        ],
+    )?;
+    let rows = Task::rows();
+    let (from, to) = (File::open(rt, "long")?, File::create(rt, "played")?);
+    play(rt, "100,001 lines", rows, from, to)?;
+    let (from, to) = (File::open(rt, ".")?, open_append(rt, "played")?);
+    play(rt, "a directory as input", rows, from, to)?;
+    let (from, to) = (open_append(rt, "played")?, open_append(rt, "played")?);
+    play(rt, "closed input", rows, from, to)?;
+    let (from, to) = (File::open(rt, "long")?, File::create(rt, "/dev/full")?);
+    play(rt, "full output", rows, from, to)?;
+    let (from, to) = (File::open(rt, "long")?, File::open(rt, "played")?);
+    play(rt, "closed output", rows, from, to)?;
+    tell_last(rt, 80)
 }
 
-// At the limit of lines, by errors of the system; after a write that failed nothing more is read. A file that is open
-// for writing alone stands for a closed input, one for reading alone for a closed output: the system answers the same.
-fn play_all_rows<R: Files + Print>(rt: &R) -> io::Result<()> {
-    write_events(rt)?;
-    play_rows(
+// So many commits, each of which saves a cell.
+fn write_commits<R: Files>(rt: &R, times: usize) -> io::Result<()> {
+    write_events(
         rt,
-        b"100,001 lines: ",
-        File::open(rt, "long")?,
-        File::create(rt, "played")?,
-    )?;
-    play_rows(
-        rt,
-        b"a directory as input: ",
-        File::open(rt, ".")?,
-        open_append(rt, "played")?,
-    )?;
-    play_rows(
-        rt,
-        b"closed input: ",
-        open_append(rt, "played")?,
-        open_append(rt, "played")?,
-    )?;
-    play_rows(
-        rt,
-        b"full output: ",
-        File::open(rt, "long")?,
-        File::create(rt, "/dev/full")?,
-    )?;
-    play_rows(
-        rt,
-        b"closed output: ",
-        File::open(rt, "long")?,
-        File::open(rt, "played")?,
-    )?;
-    tell_last(rt, -80)
+        "commits",
+        &[(b"F,1,1,1,0\n", 1), (b"W,0,0,07\nC,0,\n", times)],
+    )
 }
 
-// At the limits of commits and of lines; after a read that failed there is no total line.
-fn play_all_pages<R: Files + Print>(rt: &R) -> io::Result<()> {
+// `rsmpage` at the limits of commits and of lines; after a read that failed there is no total line. The last three
+// lines of each page are told.
+fn play_pages<R: Files + Print + AllocGlobal>(rt: &R) -> io::Result<()> {
+    let page = Task::page();
     write_commits(rt, 9999)?;
-    play_page(rt, b"page of 9,999 commits: ", File::open(rt, "commits")?)?;
+    play_to_last(rt, "page of 9,999 commits", page, "commits", 96)?;
     write_commits(rt, 10000)?;
-    play_page(rt, b"page of 10,000 commits: ", File::open(rt, "commits")?)?;
-    write_late_commits(rt)?;
-    play_page(rt, b"page of 100,001 lines: ", File::open(rt, "commits")?)?;
-    play_page(rt, b"page of a directory: ", File::open(rt, ".")?)
+    play_to_last(rt, "page of 10,000 commits", page, "commits", 96)?;
+    // A commit in line 99,999 and one in line 100,000.
+    write_events(
+        rt,
+        "commits",
+        &[(b"F,1,1,1,0\n", 1), (b"U\n", 99997), (b"C,0,\n", 2)],
+    )?;
+    play_to_last(rt, "page of 100,001 lines", page, "commits", 96)?;
+    play_to_last(rt, "page of a directory", page, ".", 96)
 }
 
-// At the limit of lines; after a read that failed there is no order.
-fn play_all_orders<R: Files + Print>(rt: &R) -> io::Result<()> {
-    write_late_links(rt)?;
-    play_order(rt, b"order of 100,001 lines: ", File::open(rt, "links")?)?;
-    play_order(rt, b"order of a directory: ", File::open(rt, ".")?)
+// `rsmorder` at the limit of lines; after a read that failed there is no order. The last three lines are told.
+fn play_orders<R: Files + Print + AllocGlobal>(rt: &R) -> io::Result<()> {
+    // In line 99,999 board 0 comes to depend on board 1, and in line 100,000 neither would depend on the other any
+    // more.
+    write_events(
+        rt,
+        "links",
+        &[
+            (b"F,3,1,1,0\n", 1),
+            (b"U\n", 99996),
+            (b"W,1,0,07\nR,0,0,1\nX,1\n", 1),
+        ],
+    )?;
+    let order = Task::order();
+    play_to_last(rt, "order of 100,001 lines", order, "links", 15)?;
+    play_to_last(rt, "order of a directory", order, ".", 15)
 }
 
 fn main(rt: HostRuntime) -> io::Result<()> {
-    play_all_rows(&rt)?;
-    play_all_pages(&rt)?;
-    play_all_orders(&rt)
+    play_rows(&rt)?;
+    play_pages(&rt)?;
+    play_orders(&rt)
 }

@@ -1,9 +1,8 @@
 -- The first tests of a call, and what a call that passed them knows.
 use Prim.Native.Nat.{ℕ, ◌≤◌, ◌<◌}
-use mathlib.Core.Path.{◌≡◌, sym, ◌∙◌, ap, subst}
+use mathlib.Core.Path.{◌≡◌, sym, ◌∙◌, ap}
 use mathlib.Core.Bool.{true, false}
 use mathlib.Core.List.{List, ◌++◌}
-use mathlib.Core.Logic.{◌⊎◌, inl, inr, ◌≢◌}
 use borrow.Author.Tests.{le-leb, lt-leb}
 use Rattle.protocol.specs.Image.{in_order, shape_of}
 use Rattle.volatile.specs.Volatile.{bad_record}
@@ -12,16 +11,20 @@ use Rattle.protocol.specs.Calls.{Request, Test, first, entry_tests, refusal_at, 
 use Rattle.protocol.specs.declared.Shape.{Shape}
 use Rattle.protocol.specs.declared.Requester.{Requester}
 use Rattle.volatile.specs.declared.Record.{Record}
+use Rattle.protocol.specs.Answers.{reply_says}
+use Rattle.protocol.specs.Refusals.{number_of}
+use Rattle.protocol.specs.declared.Refusal.{Refusal}
 use Rattle.protocol.specs.declared.Reply.{Reply}
 use Rattle.store.specs.Promise.{Performed}
 use Rattle.store.proofs.Ends.{turned}
+use Rattle.protocol.proofs.Numbers.{refusal_not_zero}
 use Rattle.protocol.proofs.Bridge.{board_small}
 use Rattle.protocol.proofs.Refusals.{first_stops}
 use Rattle.layout.specs.Headers.{Shaped}
 use Rattle.layout.proofs.Laws.{bounded}
-use Rattle.entry.specs.Tested.{Tested, refused, passed, refusal_number, entry_says, EntryPassed}
-use Rattle.entry.specs.declared.Entry.{Entry}
-use Rattle.entry.specs.declared.Entry.TheVariants.{Taken}
+use Rattle.entry.specs.Tested.{Tested, EntryPassed}
+use Rattle.std.proofs.Common.{Result, Ok, Err}
+use Rattle.std.specs.Result.{IsErrAnd}
 
 -- the three first tests, by the shape that was read
 module _ (image : List ℕ) (r : Record) (i : ℕ) where
@@ -52,40 +55,21 @@ same_board who h q = ap (λ s. board_of s who) h.shape ∙ sym q
 pub small : {image : List ℕ} {r : Record} {i : ℕ} {s : Shape} → EntryPassed image r i s → i < 16
 small h = board_small (bounded h.shaped.allowed_shape).limits h.board
 
--- ---- tests that were answered by an enum
+-- ---- tests that refuse
 
-passing : {T : Type 0} {n : ℕ} {Known : T → Type 0} {t : T} → Tested n Known (inr t) → (n ≡ 0) × Known t
-passing (passed z k) = (z, k)
+-- a refusal that `?` handed on
+pub handed_on : {T : Type 0} {n : ℕ} (Known : T → Type 0) (r : Result T Refusal) (why : Refusal)
+    → IsErrAnd r (λ e. e ≡ why) → n ≡ number_of why → Tested n Known r
+handed_on Known (Ok t) why h e = elim h [ ]
+handed_on Known (Err x) why h e = e ∙ sym (ap number_of h)
 
-refusing : {T : Type 0} {n m : ℕ} {Known : T → Type 0} → Tested n Known (inl m) → (n ≡ m) × (m ≢ 0)
-refusing (refused e h) = (e, h)
-
-module _ {T : Type 0} {Known : T → Type 0} {e : ℕ ⊎ T} where
-  pub if_passed : {n : ℕ} {t : T} → Tested n Known e → e ≡ inr t → (n ≡ 0) × Known t
-  if_passed {n} t q = passing (subst (Tested n Known) q t)
-
-  pub if_refused : {m n j : ℕ} → Tested n Known e → e ≡ inl j → m ≡ refusal_number e → (n ≡ m) × (m ≢ 0)
-  if_refused {n = n} t q f =
-      let both = refusing (subst (Tested n Known) q t) in
-      let same = sym (f ∙ ap refusal_number q) in
-      (both.0 ∙ same, subst (λ x. x ≢ 0) same both.1)
-
+module _ (ts us : List Test) (why : Refusal) (e : first ts ≡ number_of why) where
   -- the first of a call's tests refuse it, whatever follows them
-  pub refused_first : (ts us : List Test) {m j : ℕ} → Tested (first ts) Known e → e ≡ inl j → m ≡ refusal_number e
-      → (first (ts ++ us) ≡ m) × (m ≢ 0)
-  refused_first ts us t q f =
-      let both = if_refused t q f in
-      (first_stops ts us (λ z. both.1 (sym both.0 ∙ z)) ∙ both.0, both.1)
+  pub refused_first : first (ts ++ us) ≡ number_of why
+  refused_first = first_stops ts us (λ z. refusal_not_zero why (sym e ∙ z)) ∙ e
 
-  pub call_refused_first : {image : List ℕ} (state : Record) (request : Request) (ts us : List Test) {k m n : ℕ}
-      {next : Record} {reply : Reply} → Tested (first ts) Known e → refusal_at image state request ≡ first (ts ++ us)
-      → e ≡ inl n → m ≡ refusal_number e → reply ≡ refusal_of m next → next ≡ record_refused state request
+  pub call_refused_first : {image : List ℕ} (state : Record) (request : Request) {k : ℕ} {next : Record}
+      {reply : Reply} → refusal_at image state request ≡ first (ts ++ us)
+      → reply_says reply ≡ refusal_of (number_of why) next → next ≡ record_refused state request
       → Performed request k image state reply image
-  call_refused_first state request ts us t same q f g h =
-      let both = refused_first ts us t q f in
-      turned state request (same ∙ both.0) both.1 h g
-
--- tests that answered Taken
-pub if_taken : {n : ℕ} {Known : Shape → Type 0} {e : Entry} {s : Shape} → Tested n Known (entry_says e) → e ≡ Taken s
-    → (n ≡ 0) × Known s
-if_taken t q = if_passed t (ap entry_says q)
+  call_refused_first state request same g h = turned state request why (same ∙ refused_first) h g

@@ -1,28 +1,21 @@
 -- What tests answer, and what a call of a board knows once it passed the first of them.
-use Rattle.std.specs.Prelude.{ℕ, ◌<◌, ◌≡◌, false, List, ◌⊎◌, ◌≢◌}
-use Rattle.std.proofs.Common.{inl, inr}
+use Rattle.std.specs.Prelude.{ℕ, ◌<◌, ◌≡◌, false, List, Result, MatchResult}
 use Rattle.volatile.specs.Volatile.{bad_record}
+use Rattle.protocol.specs.Refusals.{number_of}
+use Rattle.protocol.specs.declared.Refusal.{Refusal}
 use Rattle.protocol.specs.declared.Shape.{Shape}
 use Rattle.volatile.specs.declared.Record.{Record}
 use Rattle.layout.specs.Headers.{Shaped}
-use Rattle.entry.specs.declared.Entry.{Entry}
-use Rattle.entry.specs.declared.Entry.TheVariants.{Refused, Taken}
+
+-- no test holds, and of what was tested this is known
+pub record Passed {T : Type 0} (n : ℕ) (Known : T → Type 0) (t : T) : Type 0 where
+  pub none : n ≡ 0
+  pub known : Known t
 
 -- What tests answered, n being the number of the first that holds: a refusal with that number, or, where none holds,
 -- something of which more is known.
-pub data Tested {T : Type 0} (n : ℕ) (Known : T → Type 0) : ℕ ⊎ T → Type 0 where
-  refused : {m : ℕ} → n ≡ m → m ≢ 0 → Tested n Known (inl m)
-  passed : {t : T} → n ≡ 0 → Known t → Tested n Known (inr t)
-
--- the number of a refusal, 0 for none
-abbrev pub refusal_number : {T : Type 0} → ℕ ⊎ T → ℕ
-refusal_number (inl n) = n
-refusal_number (inr t) = 0
-
--- what the cases of Entry say
-abbrev pub entry_says : Entry → ℕ ⊎ Shape
-entry_says (Refused n) = inl n
-entry_says (Taken s) = inr s
+abbrev pub Tested : {T : Type 0} → ℕ → (T → Type 0) → Result T Refusal → Type 0
+Tested n Known r = MatchResult r (Passed n Known) (λ e. n ≡ number_of e)
 
 -- the image has its shape, which is allowed, and its exact length; the record is in order, the board below P
 pub record EntryPassed (image : List ℕ) (r : Record) (i : ℕ) (s : Shape) : Type 0 where

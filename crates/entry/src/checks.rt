@@ -22,16 +22,9 @@ fn bad_row(p: u8, i: u8, row: u16) -> bool
 fn bad_rows(p: u8, rows: [u16; 16]) -> bool
     ensures { result ≡ bad_rows p rows }
 {
-    let mut i: u8 = 0;
-    while i < 16 {
-        let at = i as usize;
-        let row = rows[at];
-        if bad_row(p, i, row) {
-            return true;
-        }
-        i += 1;
-    }
-    false
+    rows.iter()
+        .enumerate()
+        .any(|(i, row)| bad_row(p, i as u8, *row))
 }
 
 // No commit is open: starter or acknowledged is not 0.

@@ -8,6 +8,7 @@ use Rattle.protocol.specs.Image.{Recovery, Current, shape_of, view}
 use Rattle.volatile.specs.Volatile.{depends, clear}
 use Rattle.protocol.specs.Calls.{Fault, refusal_at, blocks_copied, plan}
 use Rattle.protocol.specs.declared.Shape.{Shape}
+use Rattle.protocol.specs.Answers.{reply_says}
 use Rattle.protocol.specs.declared.Reply.{Reply}
 use Rattle.volatile.specs.declared.Record.{Record}
 use Rattle.store.specs.Budget.{start}
@@ -22,7 +23,7 @@ pub fault_done : {s : Shape} {image after : List ℕ} (state : Record) (i : ℕ)
     {next : Record} {reply : Reply} → shape_of image ≡ s → refusal_at image state (Fault i) ≡ 0
     → g ≡ fault_group (depends state) i → next ≡ clear state g → b ≡ start k
     → Puts s (blocks_copied s (view s image) Recovery Current (tagged_in g)) b image r after
-    → reply ≡ reply_of k r false g next → Performed (Fault i) k image state reply after
+    → reply_says reply ≡ reply_of k r false g next → Performed (Fault i) k image state reply after
 unfolding plan
 fault_done {s} {image} {after} state i {k} {b} {r} shape n f h new p e =
     let m = view s image in

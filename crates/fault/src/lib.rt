@@ -4,7 +4,7 @@ ghost use Rattle.protocol.specs.Calls.{Fault};
 ghost use Rattle.store.specs.Promise.{Performed};
 
 use blocks::copy_blocks;
-use entry::{Entry, enter};
+use entry::enter;
 use groups::fault_closure;
 use protocol::Reply;
 use store::Budget;
@@ -15,9 +15,9 @@ use volatile::Record;
 pub fn fault(image: &mut [u8], state: Record, board: usize, k: usize) -> Reply
     ensures { Performed (Fault board) k image.old state result image.new }
 {
-    let entry = enter(image, state, board);
-    let Entry::Taken(s) = entry else {
-        return refusal(entry.number(), state);
+    let s = match enter(image, state, board) {
+        Ok(s) => s,
+        Err(why) => return refusal(why, state),
     };
     let rows = state.rows;
     let group = fault_closure(rows, board as u8);

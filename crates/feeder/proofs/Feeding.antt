@@ -5,7 +5,6 @@ use mathlib.Core.Bool.{true, false}
 use mathlib.Core.List.{List, ◌++◌}
 use mathlib.Core.Logic.{⊎_elim}
 use native.Mathlib.Omega.{arith}
-use native.Mathlib.Nat.{sub-zero}
 use lib.ListN.{length, take, drop, length-drop}
 use lib.Seq.{take_all, length-take-le}
 use Rattle.boards.proofs.Basics.{decide}
@@ -76,24 +75,22 @@ still Limit v written out k u = u
 
 -- a piece whose lines were played, and what is kept of its rest at the input's start
 pub fed : (w : State) (input : List ℕ) {end : ℕ} {p : Progress} {area out after : List ℕ} {held : ℕ} →
-    length after ≡ length input → end ≤ length input → Progresses w (take (end - 0) input) p area out →
+    length after ≡ length input → end ≤ length input → Progresses w (take end input) p area out →
     Keeps p.stop (drop p.read (take end input)) held after →
-    Feeds w (take end input) (record { task = p.task; held = held; written = p.written; stop = p.stop }) after area
-    out
+    Feeds w (take end input) (record { progress = p; held = held }) after area out
 fed w input {end} {p} {area} {out} {after} {held} long l played k =
-    let done : Progresses w (take end input) p area out = rw sub-zero at played in
     let v = state_of p.task area in
     let rest = drop p.read (take end input) in
-    let why = done.stops in
+    let why = played.stops in
     record {
       output = λ more.
-          done.output more
+          played.output more
           ∙ ap (λ (s : List ℕ). take p.written out ++ s)
           (kept_stands k reporting v long_alike (stopped p.stop v rest p.written out why) more);
       stops = still p.stop v p.written out k why;
       kept =
           kept_on k (omega (arith, length-drop p.read (take end input), length-take-le end input l))
           (unbroken_so p.stop v rest p.written out why);
-      written = done.written;
-      fits = done.fits;
+      written = played.written;
+      fits = played.fits;
     }

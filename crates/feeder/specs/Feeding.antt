@@ -33,8 +33,9 @@ pub record Progresses (w : State) (piece : List ℕ) (r : Progress) (area out : 
 pub record Feeds (w : State) (text : List ℕ) (r : Fed) (input area out : List ℕ) : Type 0 where
   pub output : (more : List ℕ) →
       output_by reporting w (lines (text ++ more))
-      ≡ take r.written out ++ output_by reporting (state_of r.task area) (lines (take r.held input ++ more))
-  pub stops : Stops r.stop (state_of r.task area) (take r.held input) r.written out
-  pub kept : Kept r.stop r.held input
-  pub written : r.written ≤ length out
-  pub fits : Fits r.task
+      ≡ take r.progress.written out
+      ++ output_by reporting (state_of r.progress.task area) (lines (take r.held input ++ more))
+  pub stops : Stops r.progress.stop (state_of r.progress.task area) (take r.held input) r.progress.written out
+  pub kept : Kept r.progress.stop r.held input
+  pub written : r.progress.written ≤ length out
+  pub fits : Fits r.progress.task

@@ -4,7 +4,7 @@ ghost use Rattle.std.specs.Prelude.{◌≤◌, length, take};
 ghost use Rattle.reports.specs.Tasks.{state_of, Fits};
 ghost use Rattle.feeder.specs.Feeding.{Progresses, Feeds};
 
-use pieces::{NextLine, Stop, keep, next_line};
+use pieces::{Stop, keep, next_line};
 use reports::{Task, step};
 
 // The room that the output of one line takes at most.
@@ -19,14 +19,12 @@ pub struct Progress {
     pub stop: Stop,
 }
 
-// The task after the whole lines of a piece, how many characters are kept at the input's start, how much output there
-// is, and why the lines stopped: with `Full` there are more to play in what is kept.
+// How far the whole lines of a piece were played, and how many characters are kept at the input's start: where the
+// lines stopped with `Full`, there are more to play in these.
 #[derive(Clone, Copy)]
 pub struct Fed {
-    pub task: Task,
+    pub progress: Progress,
     pub held: usize,
-    pub written: usize,
-    pub stop: Stop,
 }
 
 // Plays and prints the whole lines of a piece, as long as the output has room.
@@ -40,7 +38,7 @@ fn play_lines(piece: &[u8], area: &mut [u8], task: Task, out: &mut [u8]) -> Prog
     let mut read = 0;
     let mut written = 0;
     while current.goes_on() {
-        let NextLine::EndsAt(end) = next_line(piece, read) else {
+        let Some(end) = next_line(piece, read) else {
             return Progress {
                 task: current,
                 read,
@@ -75,14 +73,7 @@ pub fn feed(input: &mut [u8], end: usize, area: &mut [u8], task: Task, out: &mut
     ensures { Feeds (state_of task area.old) (take end input.old) result
         input.new area.new out.new }
 {
-    let progress = play_lines(&input[0..end], area, task, out);
-    let stop = progress.stop;
-    let held = keep(input, progress.read, end, stop);
-    let next = progress.task;
-    Fed {
-        task: next,
-        held,
-        written: progress.written,
-        stop,
-    }
+    let progress = play_lines(&input[..end], area, task, out);
+    let held = keep(input, progress.read, end, progress.stop);
+    Fed { progress, held }
 }

@@ -3,22 +3,24 @@ use Prim.Native.Nat.{ℕ, zero, suc, ◌+◌, ◌-◌, ◌*◌, ◌≤◌, ◌<�
 use mathlib.Core.Path.{◌≡◌, refl, sym, ◌∙◌, ap}
 use mathlib.Core.Bool.{Bool, true, false, ◌&&◌, cond}
 use mathlib.Core.List.{List, [], ◌∷◌}
-use lib.Dec.{eqb, leb}
+use Rattle.std.specs.Prelude.{Option, None, Some, unwrap_or}
+use Rattle.std.specs.List.{position_or_len}
+use Rattle.std.specs.Option.{option_map}
+use Rattle.std.proofs.lemmas.List.Sums.{prefix_len-le-length}
+use mathlib.Core.Bool.{not}
+use lib.Dec.{eqb, leb, ltb}
 use lib.ListN.{length, get_or, take, drop, length-take, length-drop, drop_of_length-le}
-use lib.Seq.{drop-cons, drop-drop, get_or-drop, get_or-take, take_all}
+use lib.Seq.{drop-drop, get_or-drop, get_or-take, take_all}
 use native.Mathlib.Omega.{arith}
 use native.Mathlib.Numerals.{add-one}
-use borrow.Author.Tests.{eq-eqb, ne_eqb, le-leb, leb-true, eqb-true}
+use borrow.Author.Tests.{ltb-false, eq-eqb, ne_eqb, le-leb, leb-true, eqb-true}
 use Rattle.boards.proofs.Basics.{and_true, if_true, if_false, refute}
-use Rattle.text.specs.Fields.{comma, until, past, field, before, after, commas, Number, Value, Invalid, number_from}
+use Rattle.text.specs.Fields.{comma, until, past, field, before, after, commas, number_from}
 use Rattle.text.specs.Fields.{number_of, between}
 use Rattle.text.specs.Letters.{table, looked_up, letter_of}
 use Rattle.text.proofs.Places.{from}
-use Rattle.text.specs.declared.Listing.{Listing}
-use Rattle.text.specs.declared.Letter.TheVariants.{Listed, Unlisted}
 use Rattle.fields.specs.Numbers.{measured, from_field, FieldEnds}
-use Rattle.fields.specs.declared.Field.{Field}
-use Rattle.fields.specs.declared.Field.TheVariants as read
+use Rattle.fields.specs.declared.Number.{Number}
 
 -- ---- the text from a place on
 
@@ -48,7 +50,7 @@ module _ (s : List ℕ) (i : ℕ) (l : i < length s) where
     number_more l m n = rw (next, le-leb 48 _ l, le-leb _ 57 m, le-leb _ 65535 n)
 
     number_stop : (48 ≤ get_or s i 0 → get_or s i 0 ≤ 57 → 10 * v + (get_or s i 0 - 48) ≤ 65535 → ⊥)
-        → number_from v (before (drop i s)) ≡ Invalid
+        → number_from v (before (drop i s)) ≡ None
     unfolding number_from
     number_stop h = rw next (if_false _ _ (refute (between 48 57 c && leb w 65535) go))
       where
@@ -114,35 +116,35 @@ module _ (d : ℕ) where
       go true h = refl
       go false h = h
 
+-- what a search finds, or else the text's length
+place_until : (d : ℕ) (s : List ℕ) → position_or_len (λ c. eqb c d) s ≡ length (until d s)
+unfolding until
+place_until d [] = refl
+place_until d (c ∷ s) = go (eqb c d) (place_until d s)
+  where
+    go : (b : Bool) → position_or_len (λ c. eqb c d) s ≡ length (until d s)
+        → cond (not b) (1 + position_or_len (λ c. eqb c d) s) 0 ≡ length (cond b [] (c ∷ until d s))
+    go true h = refl
+    go false h = omega (arith, h)
+
+pub found_until : (d : ℕ) (s : List ℕ) →
+    let n = position_or_len (λ c. eqb c d) s in
+    unwrap_or (cond (ltb n (length s)) (Some n) None) (length s) ≡ length (until d s)
+found_until d s = go (ltb n (length s)) refl ∙ place_until d s
+  where
+    n : ℕ
+    n = position_or_len (λ c. eqb c d) s
+
+    go : (b : Bool) → ltb n (length s) ≡ b → unwrap_or (cond b (Some n) None) (length s) ≡ n
+    go true e = refl
+    go false e = omega (arith, ltb-false n (length s) e, prefix_len-le-length (λ c. not (eqb c d)) s)
+
 pub before_fits : (s : List ℕ) → length (before s) ≤ length s
 before_fits s = until_fits comma s
 
--- ---- the table of letters
-
-module _ (c : ℕ) (es : List Listing) (i : ℕ) (d : Listing) (l : i < length es) where
-  pub entry_found : (get_or es i d).letter ≡ c → looked_up c (drop i es) ≡ Listed c (get_or es i d).commas
-  unfolding looked_up
-  entry_found e = rw (drop-cons es i d l, eq-eqb _ _ e)
-
-  pub entry_passed : ((get_or es i d).letter ≡ c → ⊥) → looked_up c (drop i es) ≡ looked_up c (drop (i + 1) es)
-  unfolding looked_up
-  entry_passed e = rw (add-one, drop-cons es i d l, ne_eqb _ _ e)
-
 -- ---- a letter, which stands alone
 
--- the first character of a line that has two is alone exactly if the second is a comma
-pub second_comma : (s : List ℕ) → 1 < length s → (get_or s 0 0 ≡ comma → ⊥)
-    → eqb (get_or s 1 0) comma ≡ eqb (length (before s)) 1
-unfolding until
-second_comma [] l f = absurd (omega arith)
-second_comma (x ∷ []) l f = absurd (omega arith)
-second_comma (x ∷ y ∷ s) l f = rw (ne_eqb x comma f) (go (eqb y comma))
-  where
-    go : (b : Bool) → b ≡ eqb (suc (length (cond b [] (y ∷ before s)))) 1
-    go true = refl
-    go false = sym (ne_eqb (suc (suc (length (before s)))) 1 (λ e. omega arith))
-
-pub letter_none : (t : List ℕ) → (length t ≡ 1 → ⊥) → letter_of t ≡ Unlisted
+pub letter_none : (t : List ℕ) → (length t ≡ 1 → ⊥) → letter_of t ≡ None
 unfolding letter_of
 letter_none [] h = refl
 letter_none (c ∷ []) h = absurd (h refl)
@@ -158,12 +160,12 @@ letter_one (x ∷ s) e = ap letter_of (sym (take_until comma (x ∷ s)) ∙ ap (
 pub first_of : (s : List ℕ) → 0 < length (before s) → get_or (before s) 0 0 ≡ get_or s 0 0
 first_of s l = ap (λ t. get_or t 0 0) (sym (take_until comma s)) ∙ get_or-take _ s 0 0 l
 
-pub number_none : (t : List ℕ) → length t ≡ 0 → number_of t ≡ Invalid
+pub number_none : (t : List ℕ) → length t ≡ 0 → number_of t ≡ None
 unfolding number_of
 number_none [] l = refl
 number_none (c ∷ t) l = absurd (omega arith)
 
-pub number_led : (t : List ℕ) → 1 < length t → get_or t 0 0 ≡ 48 → number_of t ≡ Invalid
+pub number_led : (t : List ℕ) → 1 < length t → get_or t 0 0 ≡ 48 → number_of t ≡ None
 unfolding number_of
 number_led [] l e = absurd (omega arith)
 number_led (c ∷ []) l e = absurd (omega arith)
@@ -177,25 +179,25 @@ number_whole (c ∷ []) l h = refl
 number_whole (c ∷ d ∷ t) l h = if_false _ _ (ne_eqb c 48 (h (omega arith)))
 
 -- where no digit follows, the number is whole; what the digits can't make is no number
-pub number_done : (v : ℕ) (t : List ℕ) → length t ≡ 0 → number_from v t ≡ Value v
+pub number_done : (v : ℕ) (t : List ℕ) → length t ≡ 0 → number_from v t ≡ Some v
 unfolding number_from
 number_done v [] l = refl
 number_done v (c ∷ t) l = absurd (omega arith)
 
-number_refused : (t : List ℕ) → number_from 0 t ≡ Invalid → number_of t ≡ Invalid
+number_refused : (t : List ℕ) → number_from 0 t ≡ None → number_of t ≡ None
 unfolding number_of
 number_refused [] e = refl
 number_refused (c ∷ []) e = e
 number_refused (c ∷ d ∷ t) e = rw e (go (eqb c 48))
   where
-    go : (b : Bool) → cond b Invalid Invalid ≡ Invalid
+    go : (b : Bool) → cond {A = Option ℕ} b None None ≡ None
     go true = refl
     go false = refl
 
 pub number_stopped : (s : List ℕ) (i : ℕ) → i < length s → (v : ℕ)
     → number_from v (before (drop i s)) ≡ number_from 0 (before s) → (get_or s i 0 ≡ comma → ⊥)
     → (48 ≤ get_or s i 0 → get_or s i 0 ≤ 57 → 10 * v + (get_or s i 0 - 48) ≤ 65535 → ⊥)
-    → read.Other ≡ measured (number_of (before s)) (length (before s))
+    → None ≡ measured (number_of (before s)) (length (before s))
 unfolding measured
 number_stopped s i l v e other h = rw (number_refused (before s) (sym e ∙ number_stop s i l v other h))
 
@@ -255,16 +257,21 @@ pub ends_first : (s : List ℕ) → length (before s) ≡ 1 → FieldEnds s 0 1
 unfolding from_field
 ends_first s e = ends s 0 0 1 (sym e) (omega arith) (omega arith) refl
 
--- what the measure of a number tells of it
-measured_value : (x : Number) (n v m : ℕ) → measured x n ≡ read.Number v m → (x ≡ Value v) × (m ≡ n)
-unfolding measured
-measured_value (Value w) n v m e = (cc, cc)
-measured_value Invalid n v m e = (cc, cc)
+some_inj : {x y : ℕ} → Some x ≡ Some y → x ≡ y
+some_inj e = cc
 
-measured_none : (x : Number) (n : ℕ) → measured x n ≡ read.Other → x ≡ Invalid
+-- what the measure of a number tells of it
+measured_value : (x : Option ℕ) (n v m : ℕ) → measured x n ≡ Some (record { value = v; length = m })
+    → (x ≡ Some v) × (m ≡ n)
 unfolding measured
-measured_none (Value w) n e = cc
-measured_none Invalid n e = refl
+measured_value (Some w) n v m e =
+    (ap (option_map (λ (x : Number). x.value)) e, some_inj (ap (option_map (λ (x : Number). x.length)) (sym e)))
+measured_value None n v m e = (cc, cc)
+
+measured_none : (x : Option ℕ) (n : ℕ) → measured x n ≡ None → x ≡ None
+unfolding measured
+measured_none (Some w) n e = cc
+measured_none None n e = refl
 
 module _ {s : List ℕ} {i end : ℕ} (h : FieldEnds s i end) where
   -- the text behind it, as the code reads it
@@ -279,16 +286,16 @@ module _ {s : List ℕ} {i end : ℕ} (h : FieldEnds s i end) where
   next_field : field (suc i) s ≡ before rest
   next_field = field_from (suc i) s ∙ ap before (sym behind)
 
-  module _ {r : Field} (told : r ≡ measured (number_of (before rest)) (length (before rest))) where
-    pub read_value : {v n : ℕ} → r ≡ read.Number v n
-        → (number_of (field (suc i) s) ≡ Value v) × (n ≡ length (field (suc i) s))
+  module _ {r : Option Number} (told : r ≡ measured (number_of (before rest)) (length (before rest))) where
+    pub read_value : {v n : ℕ} → r ≡ Some (record { value = v; length = n })
+        → (number_of (field (suc i) s) ≡ Some v) × (n ≡ length (field (suc i) s))
     read_value {v} {n} e = rw next_field (measured_value _ _ v n (sym told ∙ e))
 
-    pub read_none : r ≡ read.Other → number_of (field (suc i) s) ≡ Invalid
+    pub read_none : r ≡ None → number_of (field (suc i) s) ≡ None
     read_none e = rw next_field (measured_none _ _ (sym told ∙ e))
 
   -- none is behind it, or the next begins behind a comma
-  pub missing : length s ≤ end → number_of (field (suc i) s) ≡ Invalid
+  pub missing : length s ≤ end → number_of (field (suc i) s) ≡ None
   unfolding number_of until
   missing l =
       ap number_of (field_from (suc i) s)

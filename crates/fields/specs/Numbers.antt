@@ -1,16 +1,13 @@
 -- What reading the numbers of a line promises.
-use Rattle.std.specs.Prelude.{ℕ, zero, suc, ◌+◌, ◌≤◌, ◌<◌, ◌≡◌, List, [], ◌∷◌, length, get_or, drop}
-use Rattle.text.specs.Fields.{comma, after, field, commas, Number, Value, Invalid, number_of}
-use Rattle.fields.specs.declared.Field.{Field}
-use Rattle.fields.specs.declared.Field.TheVariants as read
+use Rattle.std.specs.Prelude.{ℕ, zero, suc, ◌+◌, ◌≤◌, ◌<◌, ◌≡◌, List, [], ◌∷◌, length, get_or, drop, Option, None, Some}
+use Rattle.text.specs.Fields.{comma, after, field, commas, number_of}
+use Rattle.fields.specs.declared.Number.{Number}
 use Rattle.fields.specs.declared.Values.{Values}
-use Rattle.fields.specs.declared.Numbers.{Numbers}
-use Rattle.fields.specs.declared.Numbers.TheVariants.{All, Refused}
 
 -- a field read as a number, with its length
-unfoldable pub measured : Number → ℕ → Field
-measured (Value v) n = read.Number v n
-measured Invalid n = read.Other
+unfoldable pub measured : Option ℕ → ℕ → Option Number
+measured (Some v) n = Some (record { value = v; length = n })
+measured None n = None
 
 -- a line from its field i on
 unfoldable pub from_field : ℕ → List ℕ → List ℕ
@@ -24,11 +21,11 @@ pub record FieldEnds (s : List ℕ) (i end : ℕ) : Type 0 where
   pub before_it : commas s ≡ i + commas (drop end s)
   pub behind_it : from_field (suc i) s ≡ drop (suc end) s
 
-unfoldable pub values_of : Values → List ℕ
+abbrev pub values_of : Values → List ℕ
 values_of v = v.first ∷ v.second ∷ v.third ∷ v.fourth ∷ []
 
--- fields 1 to `due` are numbers, and field `due` ends at `v.end`; or one of them is none, and the line is refused
-abbrev pub Numbered : List ℕ → ℕ → Numbers → Type 0
-Numbered s due (All v) =
-    FieldEnds s due v.end × ((j : ℕ) → j < due → number_of (field (suc j) s) ≡ Value (get_or (values_of v) j 0))
-Numbered s due (Refused n) = (n ≡ 6) × ((j : ℕ) × (j < due) × (number_of (field (suc j) s) ≡ Invalid))
+-- fields 1 to `due` are numbers, and field `due` ends at `v.end`; or one of them is none
+abbrev pub Numbered : List ℕ → ℕ → Option Values → Type 0
+Numbered s due (Some v) =
+    FieldEnds s due v.end × ((j : ℕ) → j < due → number_of (field (suc j) s) ≡ Some (get_or (values_of v) j 0))
+Numbered s due None = (j : ℕ) × (j < due) × (number_of (field (suc j) s) ≡ None)

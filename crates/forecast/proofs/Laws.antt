@@ -2,12 +2,13 @@
 use Prim.Native.Nat.{ℕ, zero, suc, ◌+◌, ◌-◌, ◌*◌, ◌≤◌, ◌<◌}
 use native.Mathlib.Nat.{mul-le-mul}
 use native.Mathlib.Omega.{arith}
-use mathlib.Core.Path.{◌≡◌, sym, ◌∙◌, ap, ap₂}
+use mathlib.Core.Path.{◌≡◌, refl, sym, ◌∙◌, ap, ap₂}
 use mathlib.Core.Bool.{Bool, true, false, not, cond}
 use mathlib.Core.List.{List, []}
 use mathlib.Core.Logic.{◌≢◌}
 use lib.ListN.{length, get_or}
 use borrow.Author.Tests.{eq-eqb, ne_eqb}
+use Rattle.std.specs.Int.{from_bool}
 use Rattle.boards.specs.Boards.{has, tagged_in}
 use Rattle.volatile.specs.Volatile.{engaged}
 use Rattle.volatile.specs.declared.Record.{Record}
@@ -15,11 +16,13 @@ use Rattle.protocol.specs.Image.{Memory, Tags, allowed, shape_of, view, base, si
 use Rattle.protocol.specs.Calls.{Test, first, entry_tests}
 use Rattle.protocol.specs.declared.Shape.{Shape}
 use Rattle.protocol.proofs.Bridge.{view_at}
+use Rattle.protocol.specs.Refusals.{number_of}
+use Rattle.protocol.specs.declared.Refusal.{Refusal}
 use Rattle.protocol.proofs.Refusals.{first_held, first_passed, entry_goes_on}
+use Rattle.protocol.proofs.Numbers.{refusal_not_zero}
 use Rattle.layout.specs.Headers.{tags_at}
 use Rattle.layout.proofs.Laws.{bounded}
 use Rattle.costs.specs.Forecasts.{those, boards_of, tagged_blocks, blocks_cost, refused, answered, commit_tests}
-use Rattle.costs.specs.declared.Forecast.{Forecast}
 use Rattle.costs.proofs.Answers.{answered_refused, answered_taken}
 use Rattle.costs.proofs.Counted.{those_more, those_most}
 
@@ -27,11 +30,21 @@ use Rattle.costs.proofs.Counted.{those_more, those_most}
 abbrev pub chosen : List ℕ → Shape → ℕ → ℕ → Bool
 chosen image s g b = tagged_in g (view s image Tags b)
 
+-- a test as a number
+test_number : (b : Bool) → from_bool b ≡ cond b 1 0
+test_number true = refl
+test_number false = refl
+
+pub test_small : (b : Bool) → from_bool b ≤ 1
+test_small true = omega arith
+test_small false = omega arith
+
 -- one round of a loop that counts
-pub one_more : (i : ℕ) (p : ℕ → Bool) {n next : ℕ} {yes : Bool} → n ≡ length (those i p) → yes ≡ p i
-    → next ≡ n + cond yes 1 0 → next ≡ length (those (i + 1) p)
+pub one_more : (i : ℕ) (p : ℕ → Bool) {n one : ℕ} {yes : Bool} → n ≡ length (those i p) → yes ≡ p i
+    → one ≡ from_bool yes → n + one ≡ length (those (i + 1) p)
 one_more i p e t f =
-    f ∙ ap₂ (λ n b. n + cond b 1 0) e t ∙ sym (those_more i p) ∙ ap (λ j. length (those j p)) (omega arith)
+    ap₂ (λ n m. n + m) e (f ∙ ap from_bool t ∙ test_number (p i)) ∙ sym (those_more i p)
+    ∙ ap (λ j. length (those j p)) (omega arith)
 
 -- numbers of which none passes the test are passed over
 none_more : (p : ℕ → Bool) (b n : ℕ) → ((j : ℕ) → b ≤ j → j < b + n → p j ≡ false)
@@ -83,12 +96,13 @@ module _ (image : List ℕ) (r : Record) (i : ℕ) (entered : first (entry_tests
   commit_passes e = entry_goes_on image r i _ entered ∙ first_passed 14 [] (ap not (eq-eqb (engaged r) 0 e))
 
 -- a forecast with these tests is refused, or answers the group and its cost
-module _ (ts : List Test) {f : Forecast} where
-  pub refused_so : {n : ℕ} (g c : ℕ) → (first ts ≡ n) × (n ≢ 0) → f ≡ refused n → f ≡ answered (first ts) g c
-  refused_so g c (e, some) same = same ∙ sym (rw e (answered_refused g c some))
+module _ (ts : List Test) where
+  pub refused_so : (why : Refusal) (g c : ℕ) → first ts ≡ number_of why
+      → refused (number_of why) ≡ answered (first ts) g c
+  refused_so why g c e = sym (rw e (answered_refused g c (refusal_not_zero why)))
 
   pub taken_so : (cost : Shape → Memory → ℕ → ℕ) {s : Shape} (image : List ℕ) {g group stores : ℕ} → first ts ≡ 0
       → shape_of image ≡ s → g ≡ group → stores ≡ cost s (view s image) g
-      → f ≡ record { status = 0; group = g; stores = stores }
-      → f ≡ answered (first ts) group (cost (shape_of image) (view (shape_of image) image) group)
-  taken_so cost image z shape e c same = same ∙ rw (c, e, sym shape) (sym (answered_taken _ _ z))
+      → record { status = 0; group = g; stores = stores }
+      ≡ answered (first ts) group (cost (shape_of image) (view (shape_of image) image) group)
+  taken_so cost image z shape e c = rw (c, e, sym shape) (sym (answered_taken _ _ z))

@@ -1,27 +1,19 @@
 #![tactic(auto)]
 // Forecasts: what a commit that a board starts next, or a fault of it made next, will answer and store (document 02,
 // Req 02). Nothing is stored, and the record stays as it is.
-ghost use Rattle.std.specs.Prelude.{◌≡◌, true, cond, ◌+◌, ◌<◌, length};
+ghost use Rattle.std.specs.Prelude.{◌≡◌, true, length};
 ghost use Rattle.protocol.specs.Image.{allowed, total, view};
 ghost use Rattle.costs.specs.Forecasts.{boards_of, tagged_blocks, blocks_cost, commit_cost};
-ghost use Rattle.costs.specs.Forecasts.{refused, commit_forecast, fault_forecast};
+ghost use Rattle.costs.specs.Forecasts.{forecast_says, commit_forecast, fault_forecast};
 
 use blocks::next_tagged;
 use boards::sets::{has, tagged_in};
 use costs::Forecast;
-use entry::{Entry, enter};
+use entry::enter;
 use groups::{commit_closure, fault_closure};
 use layout::TAGS;
-use protocol::Shape;
+use protocol::{Refusal, Shape};
 use volatile::Record;
-
-// One more if the test holds.
-fn counted(n: usize, yes: bool) -> usize
-    requires { n < 1024 }
-    ensures { result ≡ n + cond yes 1 0 }
-{
-    if yes { n + 1 } else { n }
-}
 
 // How many boards a group has. Public, as is the next one: document 02's Req 05 counts the same.
 pub fn member_count(s: Shape, g: u16) -> usize
@@ -29,11 +21,8 @@ pub fn member_count(s: Shape, g: u16) -> usize
     ensures { result ≡ length (boards_of s g) }
 {
     let mut n = 0;
-    let mut i = 0;
-    while i < s.boards {
-        let member = has(g, i as u8);
-        n = counted(n, member);
-        i += 1;
+    for i in 0..s.boards {
+        n += usize::from(has(g, i as u8));
     }
     n
 }
@@ -46,9 +35,7 @@ pub fn tagged_count(image: &[u8], s: Shape, g: u16) -> usize
     let mut n = 0;
     let mut b = next_tagged(image, s, 0);
     while b < s.blocks {
-        let tag = image[TAGS + b];
-        let chosen = tagged_in(g, tag);
-        n = counted(n, chosen);
+        n += usize::from(tagged_in(g, image[TAGS + b]));
         b = next_tagged(image, s, b + 1);
     }
     n
@@ -72,53 +59,27 @@ fn commit_cost(image: &[u8], s: Shape, g: u16) -> usize
     contexts + (4 + blocks + contexts)
 }
 
-fn refused(n: u8) -> Forecast
-    ensures { result ≡ refused n }
-{
-    Forecast {
-        status: n,
-        group: 0,
-        stores: 0,
-    }
-}
-
 // Refused 11, 12, 1, 14: as a start with a context of K bytes.
-pub fn commit_forecast(image: &[u8], state: Record, board: usize) -> Forecast
-    ensures { result ≡ commit_forecast image.now state board }
+pub fn commit_forecast(image: &[u8], state: Record, board: usize) -> Result<Forecast, Refusal>
+    ensures { forecast_says result ≡ commit_forecast image.now state board }
 {
-    let entry = enter(image, state, board);
-    let Entry::Taken(s) = entry else {
-        return refused(entry.number());
-    };
+    let s = enter(image, state, board)?;
     if state.engaged() != 0 {
-        return refused(14);
+        return Err(Refusal::CommitOpen);
     }
     let rows = state.rows;
-    let group = commit_closure(rows, board as u8);
-    let g = group.members;
-    let stores = commit_cost(image, s, g);
-    Forecast {
-        status: 0,
-        group: g,
-        stores,
-    }
+    let group = commit_closure(rows, board as u8).members;
+    let stores = commit_cost(image, s, group);
+    Ok(Forecast { group, stores })
 }
 
 // Refused 11, 12, 1: as a fault.
-pub fn fault_forecast(image: &[u8], state: Record, board: usize) -> Forecast
-    ensures { result ≡ fault_forecast image.now state board }
+pub fn fault_forecast(image: &[u8], state: Record, board: usize) -> Result<Forecast, Refusal>
+    ensures { forecast_says result ≡ fault_forecast image.now state board }
 {
-    let entry = enter(image, state, board);
-    let Entry::Taken(s) = entry else {
-        return refused(entry.number());
-    };
+    let s = enter(image, state, board)?;
     let rows = state.rows;
-    let group = fault_closure(rows, board as u8);
-    let g = group.members;
-    let stores = blocks_cost(image, s, g);
-    Forecast {
-        status: 0,
-        group: g,
-        stores,
-    }
+    let group = fault_closure(rows, board as u8).members;
+    let stores = blocks_cost(image, s, group);
+    Ok(Forecast { group, stores })
 }

@@ -13,6 +13,7 @@ use Rattle.volatile.specs.Volatile.{fresh}
 use Rattle.protocol.specs.Calls.{first, refused, format_tests, formatting, format}
 use Rattle.protocol.specs.declared.Shape.{Shape}
 use Rattle.volatile.specs.declared.Record.{Record}
+use Rattle.protocol.specs.Answers.{reply_says}
 use Rattle.protocol.specs.declared.Reply.{Reply}
 use Rattle.store.specs.Budget.{Makes, one, start}
 use Rattle.store.specs.declared.Budget.{Budget}
@@ -55,17 +56,18 @@ laid_out s n long l m o p q =
 
 module _ {s : Shape} {image : List ℕ} (state : Record) (k : ℕ) where
   -- refused with the number of the first test that holds
-  turned : (n : ℕ) {r : Reply} → first (format_tests s image) ≡ n → n ≢ 0 → r ≡ refusal_of n state →
+  turned : (n : ℕ) {r : Reply} → first (format_tests s image) ≡ n → n ≢ 0 → reply_says r ≡ refusal_of n state →
       Formatted s image state k r image
   unfolding format refused
   turned n f h e = record { reply = e ∙ rw (f, ne_eqb n 0 h); image = rw (f, ne_eqb n 0 h) }
 
   -- 4 for a shape that is not allowed, then 5 for another length than its
-  pub turned_shape : {r : Reply} → allowed s ≡ false → r ≡ refusal_of 4 state → Formatted s image state k r image
+  pub turned_shape : {r : Reply} → allowed s ≡ false → reply_says r ≡ refusal_of 4 state
+      → Formatted s image state k r image
   unfolding format_tests
   turned_shape h = turned 4 (first_held 4 _ (ap not h)) (omega arith)
 
-  pub turned_length : {r : Reply} → allowed s ≡ true → length image ≢ total s → r ≡ refusal_of 5 state →
+  pub turned_length : {r : Reply} → allowed s ≡ true → length image ≢ total s → reply_says r ≡ refusal_of 5 state →
       Formatted s image state k r image
   unfolding format_tests
   turned_length h l =
@@ -73,7 +75,7 @@ module _ {s : Shape} {image : List ℕ} (state : Record) (k : ℕ) where
 
   -- done or cut, by what is left of the budget
   pub ended : {left : Budget} {after : List ℕ} {next : Record} {r : Reply} → allowed s ≡ true → length image ≡ total s →
-      next ≡ fresh → Makes (formatting s) (start k) image left after → r ≡ reply_of k left false 0 next →
+      next ≡ fresh → Makes (formatting s) (start k) image left after → reply_says r ≡ reply_of k left false 0 next →
       Formatted s image state k r after
   unfolding format format_tests first
   ended {left} h l f m e =

@@ -10,7 +10,7 @@ ghost use Rattle.boards.specs.Lists.{span};
 ghost use Rattle.format.specs.Stores.{header_store, zero_store};
 
 use layout::{DECISION, MARK, allowed, header_byte, total};
-use protocol::{Reply, Shape};
+use protocol::{Refusal, Reply, Shape};
 use store::answers::{finish, refusal};
 use store::{Budget, store};
 use volatile::Record;
@@ -21,11 +21,8 @@ fn fill_header(image: &mut [u8], s: Shape, k: Budget) -> Budget
     ensures { Makes (span (header_store s) 1 8) k image.old result image.new }
 {
     let mut left = k;
-    let mut i = 1;
-    while i < DECISION {
-        let byte = header_byte(s, i);
-        left = store(image, i, byte, left);
-        i += 1;
+    for i in 1..DECISION {
+        left = store(image, i, header_byte(s, i), left);
     }
     left
 }
@@ -36,12 +33,9 @@ fn fill_zeros(image: &mut [u8], k: Budget) -> Budget
     ensures { Makes (span zero_store decision_at (length image.old - decision_at)) k
         image.old result image.new }
 {
-    let end = image.len();
     let mut left = k;
-    let mut i = DECISION;
-    while i < end {
+    for i in DECISION..image.len() {
         left = store(image, i, 0, left);
-        i += 1;
     }
     left
 }
@@ -64,10 +58,10 @@ pub fn format(image: &mut [u8], state: Record, s: Shape, k: usize) -> Reply
 {
     let next = Record::fresh();
     if !allowed(s) {
-        return refusal(4, state);
+        return refusal(Refusal::ShapeNotAllowed, state);
     }
     if image.len() != total(s) {
-        return refusal(5, state);
+        return refusal(Refusal::WrongLength, state);
     }
     let whole = Budget::new(k);
     let left = lay_out(image, s, whole);

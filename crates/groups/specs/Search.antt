@@ -2,7 +2,9 @@
 use Rattle.std.specs.Prelude.{ℕ, ◌≡◌, Bool, true, ◌&&◌, ◌||◌, not, List, eqb}
 use Rattle.boards.specs.Lists.{count}
 use Rattle.boards.specs.Boards.{has, set_of, meets, Links}
-use Rattle.boards.specs.Rows.{links_of, turned, Grouped}
+use Rattle.boards.specs.Rows.{links_of, Grouped}
+use Rattle.groups.specs.declared.Direction.{Direction}
+use Rattle.groups.specs.declared.Direction.TheVariants.{Rows, Columns}
 use Rattle.groups.specs.declared.Found.{Found}
 use Rattle.groups.specs.declared.Progress.{Progress}
 
@@ -13,9 +15,10 @@ pub record Searched (rows : List ℕ) (g : ℕ) (f : Found) : Type 0 where
 
 -- ---- between the functions of the search
 
--- the dependences that it follows: along the rows or, back, along the columns
-abbrev pub followed : List ℕ → Bool → Links
-followed rows back = turned back (links_of rows)
+-- the dependences that it follows: along the rows or, turned, along the columns
+abbrev pub followed : List ℕ → Direction → Links
+followed rows Rows = links_of rows
+followed rows Columns = λ a b. links_of rows b a
 
 -- the boards of g, without b unless the test holds
 abbrev pub kept : Bool → ℕ → ℕ → ℕ

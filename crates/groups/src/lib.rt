@@ -1,14 +1,23 @@
 #![tactic(auto)]
 // The search of groups: from the sixteen rows taken as one value, which come back emptied (document 01, "Groups"). Each
 // board of the group has its row, or its column, added once (document 02, Req 04).
-ghost use Rattle.std.specs.Prelude.{◌≡◌, true, false, suc, ◌<◌};
+ghost use Rattle.std.specs.Prelude.{◌≡◌, false, suc, ◌<◌};
 ghost use Rattle.boards.specs.Lists.{count};
 ghost use Rattle.boards.specs.Boards.{has, set_of, with_board, commit_group, fault_group, pass};
 ghost use Rattle.boards.specs.Rows.{links_of, union, Grouped};
 ghost use Rattle.groups.specs.Search.{Searched, followed, kept, PassInvariant};
+ghost use Rattle.groups.specs.declared.Direction.TheVariants.{Rows, Columns};
 
 use boards::rows::without;
 use boards::{Closure, sets};
+
+// Along which a search follows the dependences: the rows lead to whom a board depends on, the columns to who depends on
+// it.
+#[derive(Clone, Copy, PartialEq, Eq, Debug)]
+enum Direction {
+    Rows,
+    Columns,
+}
 
 // How far a search is: the boards gathered, those of them whose row or column was added, and how many were added.
 #[derive(Clone, Copy)]
@@ -40,39 +49,34 @@ fn keep(test: bool, b: u8, g: u16) -> u16
 // The boards that depend on board a: all, without those that do not. Begun with none it takes more instructions.
 fn column(rows: [u16; 16], a: u8) -> u16
     requires { a < 16 }
-    ensures { result ≡ set_of (followed rows true a) }
+    ensures { result ≡ set_of (followed rows Columns a) }
 {
     let mut boards = 65535;
-    let mut b: u8 = 0;
-    while b < 16 {
-        let at = b as usize;
-        let row = rows[at];
-        let linked = sets::has(row, a);
-        boards = keep(linked, b, boards);
-        b += 1;
+    for (b, row) in rows.iter().enumerate() {
+        let linked = sets::has(*row, a);
+        boards = keep(linked, b as u8, boards);
     }
     boards
 }
 
-// The row of board a; its column if back. Called by `add` alone, which counts it.
-fn row_or_column(rows: [u16; 16], a: u8, back: bool) -> u16
+// The row of board a, or its column. Called by `add` alone, which counts it.
+fn row_or_column(rows: [u16; 16], a: u8, along: Direction) -> u16
     requires { a < 16 }
-    ensures { result ≡ set_of (followed rows back a) }
+    ensures { result ≡ set_of (followed rows along a) }
 {
-    if back {
-        return column(rows, a);
+    match along {
+        Direction::Rows => rows[a as usize],
+        Direction::Columns => column(rows, a),
     }
-    let at = a as usize;
-    rows[at]
 }
 
 // Adds the row or column of board a, which was not added before, and counts it.
-fn add(rows: [u16; 16], a: u8, back: bool, before: Progress) -> Progress
+fn add(rows: [u16; 16], a: u8, along: Direction, before: Progress) -> Progress
     requires { (a < 16) × (has before.added a ≡ false) × (before.count ≡ count 16 (has before.added)) }
-    ensures { (result.members ≡ union before.members (set_of (followed rows back a)))
+    ensures { (result.members ≡ union before.members (set_of (followed rows along a)))
         × (result.added ≡ with_board before.added a) × (result.count ≡ suc before.count) }
 {
-    let boards = row_or_column(rows, a, back);
+    let boards = row_or_column(rows, a, along);
     Progress {
         members: sets::union(before.members, boards),
         added: sets::with_board(before.added, a),
@@ -81,25 +85,25 @@ fn add(rows: [u16; 16], a: u8, back: bool, before: Progress) -> Progress
 }
 
 // Adds the rows or columns of the boards that joined in the last pass.
-fn pass(rows: [u16; 16], back: bool, before: Progress) -> Progress
-    requires { PassInvariant (followed rows back) before.members before }
-    ensures { (result.members ≡ pass (followed rows back) before.members)
+fn pass(rows: [u16; 16], along: Direction, before: Progress) -> Progress
+    requires { PassInvariant (followed rows along) before.members before }
+    ensures { (result.members ≡ pass (followed rows along) before.members)
         × (result.added ≡ before.members) × (result.count ≡ count 16 (has result.added)) }
 {
     let mut progress = before;
     let mut left = sets::minus(before.members, before.added);
     while left != 0 {
         let a = sets::some_board(left);
-        progress = add(rows, a, back, progress);
+        progress = add(rows, a, along, progress);
         left = sets::minus(before.members, progress.added);
     }
     progress
 }
 
 // The search, in either direction: passes until the row or column of every board gathered was added.
-fn gather(rows: [u16; 16], i: u8, back: bool) -> Progress
+fn gather(rows: [u16; 16], i: u8, along: Direction) -> Progress
     requires { i < 16 }
-    ensures { (result.members ≡ commit_group (followed rows back) i)
+    ensures { (result.members ≡ commit_group (followed rows along) i)
         × (result.count ≡ count 16 (has result.members)) }
 {
     let first = sets::single(i);
@@ -109,16 +113,17 @@ fn gather(rows: [u16; 16], i: u8, back: bool) -> Progress
         count: 0,
     };
     while progress.added != progress.members {
-        progress = pass(rows, back, progress);
+        progress = pass(rows, along, progress);
     }
     progress
 }
 
-// What a search hands back when all are gathered.
-fn conclude(rows: [u16; 16], progress: Progress) -> Found
-    requires { progress.count ≡ count 16 (has progress.members) }
-    ensures { Searched rows progress.members result }
+// What a search in either direction hands back.
+fn search(rows: [u16; 16], i: u8, along: Direction) -> Found
+    requires { i < 16 }
+    ensures { Searched rows (commit_group (followed rows along) i) result }
 {
+    let progress = gather(rows, i, along);
     let closure = without(rows, progress.members);
     Found {
         closure,
@@ -131,8 +136,7 @@ pub fn commit_search(rows: [u16; 16], i: u8) -> Found
     requires { i < 16 }
     ensures { Searched rows (commit_group (links_of rows) i) result }
 {
-    let progress = gather(rows, i, false);
-    conclude(rows, progress)
+    search(rows, i, Direction::Rows)
 }
 
 // The search of a fault group, along the columns.
@@ -140,8 +144,7 @@ pub fn fault_search(rows: [u16; 16], i: u8) -> Found
     requires { i < 16 }
     ensures { Searched rows (fault_group (links_of rows) i) result }
 {
-    let progress = gather(rows, i, true);
-    conclude(rows, progress)
+    search(rows, i, Direction::Columns)
 }
 
 // Group and rows of a search, without the count.

@@ -1,46 +1,44 @@
 -- Laws of pairs of digits, and of a buffer that is filled byte by byte.
 use Prim.Native.Nat.{ℕ, zero, suc, ◌+◌, ◌*◌, ◌/◌, ◌≤◌, ◌<◌}
 use mathlib.Core.Path.{◌≡◌, refl, sym, ◌∙◌, ap}
-use mathlib.Core.Bool.{true, false, ◌&&◌, false≢true}
+use mathlib.Core.Bool.{Bool, true, false, ◌&&◌, false≢true}
+use Rattle.std.specs.List.{list_all}
+use Rattle.std.specs.Simd.{first_chunks}
+use Rattle.std.proofs.Math.Bool.{and_assoc}
 use mathlib.Core.List.{List, [], ◌∷◌}
-use lib.Dec.{eqb, leb, eqb-suc-suc}
+use lib.Dec.{eqb, leb}
 use lib.ListN.{length, get_or, take, drop, set}
 use lib.Seq.{drop-cons, take-suc, set_at, append_snoc, length-take-le, take-length}
 use native.Mathlib.Omega.{arith}
 use native.Mathlib.Numerals.{add-one}
-use borrow.Author.Tests.{ne_eqb, le-leb, lt-leb, leb-true}
+use borrow.Author.Tests.{ne_eqb, leb-true}
 use Rattle.protocol.specs.Calls.{filled}
 use Rattle.boards.proofs.Basics.{and_true, and_false}
 use Rattle.text.specs.Fields.{comma, commas, digit, pairs, decoded}
-use Rattle.text.proofs.Places.{from}
 
 -- ---- pairs of digits
 
-module _ (s : List ℕ) (i : ℕ) (l : i + 1 < length s) where
-  step : pairs (drop i s) ≡ leb (digit (get_or s i 0)) 15
-      && (leb (digit (get_or s (i + 1) 0)) 15 && pairs (drop (i + 2) s))
-  unfolding pairs
-  step =
-      let next : i + 1 + 1 ≡ i + 2 = omega arith in
-      rw (from s i (omega arith), from s (i + 1) l, next)
+-- whether a chunk is a pair of digits
+abbrev pub is_pair : List ℕ → Bool
+is_pair p = leb (digit (get_or p 0 0)) 15 && leb (digit (get_or p 1 0)) 15
 
-  pub pairs_high : 15 < digit (get_or s i 0) → pairs (drop i s) ≡ false
-  pairs_high h = step ∙ rw (lt-leb (digit (get_or s i 0)) 15 h)
-
-  pub pairs_low : 15 < digit (get_or s (i + 1) 0) → pairs (drop i s) ≡ false
-  pairs_low h = step ∙ and_false (leb (digit (get_or s i 0)) 15) (rw (lt-leb (digit (get_or s (i + 1) 0)) 15 h))
-
-  pub pairs_more : digit (get_or s i 0) ≤ 15 → digit (get_or s (i + 1) 0) ≤ 15
-      → pairs (drop i s) ≡ pairs (drop (i + 2) s)
-  pairs_more h k = step ∙ rw (le-leb (digit (get_or s i 0)) 15 h, le-leb (digit (get_or s (i + 1) 0)) 15 k)
-
-pub pairs_end : (s : List ℕ) (i : ℕ) → i ≤ length s → length s ≤ i + 1 → pairs (drop i s) ≡ eqb i (length s)
+pub pairs_even : (s : List ℕ) (k : ℕ) → length s ≡ 2 * k → list_all is_pair (first_chunks 2 k s) ≡ pairs s
 unfolding pairs
-pairs_end [] zero a b = refl
-pairs_end (x ∷ []) zero a b = refl
-pairs_end (x ∷ y ∷ s) zero a b = absurd (omega arith)
-pairs_end [] (suc i) a b = absurd (omega arith)
-pairs_end (x ∷ s) (suc i) a b = pairs_end s i (omega arith) (omega arith) ∙ sym (eqb-suc-suc i (length s))
+pairs_even [] zero e = refl
+pairs_even [] (suc k) e = absurd (omega arith)
+pairs_even (x ∷ []) k e = absurd (omega arith)
+pairs_even (x ∷ y ∷ s) zero e = absurd (omega arith)
+pairs_even (x ∷ y ∷ s) (suc k) e =
+    and_assoc (leb (digit x) 15) _ _
+    ∙ ap (λ b. leb (digit x) 15 && (leb (digit y) 15 && b)) (pairs_even s k (omega arith))
+
+pub pairs_odd : (s : List ℕ) (k : ℕ) → length s ≡ 2 * k + 1 → pairs s ≡ false
+unfolding pairs
+pairs_odd [] k e = absurd (omega arith)
+pairs_odd (x ∷ []) k e = refl
+pairs_odd (x ∷ y ∷ s) zero e = absurd (omega arith)
+pairs_odd (x ∷ y ∷ s) (suc k) e =
+    rw (pairs_odd s k (omega arith)) (and_false (leb (digit x) 15) (and_false (leb (digit y) 15) refl))
 
 -- a pair of digits is the byte
 abbrev Pair : ℕ → ℕ → ℕ → Type 0
@@ -67,16 +65,21 @@ pairs_commas (x ∷ y ∷ s) p =
     let first = both x y s p in
     rw (no_comma x first.0, no_comma y first.1) (pairs_commas s first.2)
 
-pub pair_at : (s : List ℕ) (i : ℕ) → pairs s ≡ true → 2 * i + 1 < length s
-    → Pair (get_or s (2 * i) 0) (get_or s (2 * i + 1) 0) (get_or (decoded s) i 0)
+pair_at : (s : List ℕ) (k i : ℕ) → pairs s ≡ true → 2 * k ≤ length s → i < k →
+    let p = get_or (first_chunks 2 k s) i [] in
+    Pair (get_or p 0 0) (get_or p 1 0) (get_or (decoded s) i 0)
 unfolding decoded
-pair_at [] i p l = absurd (omega arith)
-pair_at (x ∷ []) i p l = absurd (omega arith)
-pair_at (x ∷ y ∷ s) zero p l = let first = both x y s p in (first.0, first.1, refl)
-pair_at (x ∷ y ∷ s) (suc i) p l =
-    let odd : 2 * suc i + 1 ≡ suc (suc (2 * i + 1)) = omega arith in
-    let even : 2 * suc i ≡ suc (suc (2 * i)) = omega arith in
-    rw (odd, even) (pair_at s i (both x y s p).2 (omega arith))
+pair_at s zero i p l m = absurd (omega arith)
+pair_at [] (suc k) i p l m = absurd (omega arith)
+pair_at (x ∷ []) (suc k) i p l m = absurd (omega arith)
+pair_at (x ∷ y ∷ s) (suc k) zero p l m = let first = both x y s p in (first.0, first.1, refl)
+pair_at (x ∷ y ∷ s) (suc k) (suc i) p l m = pair_at s k i (both x y s p).2 (omega arith) (omega arith)
+
+pub chunk_at : {ps : List (List ℕ)} (s : List ℕ) (i : ℕ) → ps ≡ first_chunks 2 (length s / 2) s → pairs s ≡ true
+    → i < length s / 2 →
+    let p = get_or ps i [] in
+    Pair (get_or p 0 0) (get_or p 1 0) (get_or (decoded s) i 0)
+chunk_at s i e p l = rw e (pair_at s (length s / 2) i p (omega arith) l)
 
 pub length_decoded : (s : List ℕ) → length (decoded s) ≡ length s / 2
 unfolding decoded

@@ -1,10 +1,21 @@
 -- Same: whether two images have the same shape and recovery state (document 01, end of "Commit, fault, power").
-use Rattle.std.specs.Prelude.{ℕ, ◌+◌, Bool, ◌&&◌, not, List, [], ◌∷◌, eqb}
+use Rattle.std.specs.Prelude.{ℕ, ◌+◌, Bool, false, ◌&&◌, not, List, [], ◌∷◌, eqb, Result, Ok, Err}
 use Rattle.boards.specs.Lists.{every}
 use Rattle.protocol.specs.Image.{Area, Memory, Recovery, Checkpoint, cells, contexts, byte, shape_of, in_order, view}
 use Rattle.protocol.specs.Calls.{Test, test, first}
+use Rattle.protocol.specs.Refusals.{number_of}
+use Rattle.protocol.specs.declared.Refusal.{Refusal}
 use Rattle.protocol.specs.declared.Shape.{Shape}
-use Rattle.inspect.specs.declared.Compared.{Compared}
+
+-- what comparing two images answers: 0 or the number of the refusal, and whether they are the same; refused, no
+pub record Compared : Type 0 where
+  pub status : ℕ
+  pub same : Bool
+
+-- what the code's answer is in these numbers
+abbrev pub compared_says : Result Bool Refusal → Compared
+compared_says (Ok b) = record { status = 0; same = b }
+compared_says (Err e) = record { status = number_of e; same = false }
 
 -- the first image, then the second
 unfoldable pub compare_tests : List ℕ → List ℕ → List Test

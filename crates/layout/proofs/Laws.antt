@@ -15,9 +15,7 @@ use Rattle.protocol.specs.Image.{allowed, exponent, exponent_from, total, byte, 
 use Rattle.protocol.specs.Image.{size, view}
 use Rattle.protocol.specs.declared.Shape.{Shape}
 use Rattle.boards.proofs.Basics.{decide, refute, any_some, some_any}
-use Rattle.layout.specs.Headers.{Shaped, HeaderOf, named, unnamed}
-use Rattle.layout.specs.declared.Header.{Header}
-use Rattle.layout.specs.declared.Header.TheVariants.{InOrder, Disordered}
+use Rattle.layout.specs.Headers.{Shaped}
 use Rattle.protocol.proofs.Bridge.{Limits, limits, Sound, order_sound, view_at}
 
 -- ---- sizes
@@ -132,21 +130,6 @@ unfolding total
 shaped_power {image} h =
     let allowed_shape = subst (λ s. allowed s ≡ true) (sym h.shape) h.allowed_shape in
     (omega (arith, h.long), power_small image allowed_shape)
-
--- what a header that was read tells
-module _ {most : ℕ} {image : List ℕ} where
-  naming : {s : Shape} → HeaderOf most image (InOrder s) → (in_order most image ≡ true) × Shaped image s
-  naming (named e h) = (e, h)
-
-  failing : HeaderOf most image Disordered → in_order most image ≡ false
-  failing (unnamed e) = e
-
-  pub headed : {h : Header} {s : Shape} → HeaderOf most image h → h ≡ InOrder s
-      → (in_order most image ≡ true) × Shaped image s
-  headed r e = naming (subst (HeaderOf most image) e r)
-
-  pub unheaded : {h : Header} → HeaderOf most image h → h ≡ Disordered → in_order most image ≡ false
-  unheaded r e = failing (subst (HeaderOf most image) e r)
 
 -- an image is out of order if any of that fails
 pub disordered : {most : ℕ} {image : List ℕ} → (Geometry most (shape_of image) image → ⊥) → in_order most image ≡ false

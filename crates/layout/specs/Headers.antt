@@ -1,9 +1,9 @@
 -- What a header is read as, and where the bytes past the shape stand.
-use Rattle.std.specs.Prelude.{ℕ, ◌≡◌, true, false, List, length}
+use Rattle.std.specs.Prelude.{ℕ, ◌≡◌, true, false, List, length, Result, MatchResult}
 use Rattle.protocol.specs.Image.{allowed, in_order, shape_of, total}
 use Rattle.protocol.specs.declared.Shape.{Shape}
-use Rattle.layout.specs.declared.Header.{Header}
-use Rattle.layout.specs.declared.Header.TheVariants.{InOrder, Disordered}
+use Rattle.protocol.specs.declared.Refusal.{Refusal}
+use Rattle.protocol.specs.declared.Refusal.TheVariants.{Disordered}
 
 -- byte 9, the decision; bytes 10 and 11, the deciding group; the tags from byte 12 on
 abbrev pub decision_at : ℕ
@@ -21,7 +21,11 @@ pub record Shaped (image : List ℕ) (s : Shape) : Type 0 where
   pub allowed_shape : allowed s ≡ true
   pub long : length image ≡ total s
 
--- in order, byte 9 being at most `most`, and of that shape; or not in order
-pub data HeaderOf (most : ℕ) (image : List ℕ) : Header → Type 0 where
-  named : {s : Shape} → in_order most image ≡ true → Shaped image s → HeaderOf most image (InOrder s)
-  unnamed : in_order most image ≡ false → HeaderOf most image Disordered
+-- in order, byte 9 being at most `most`, and of that shape
+pub record Headed (most : ℕ) (image : List ℕ) (s : Shape) : Type 0 where
+  pub ordered : in_order most image ≡ true
+  pub shaped : Shaped image s
+
+-- the shape of an image in order; of any other the refusal 11
+abbrev pub HeaderOf : ℕ → List ℕ → Result Shape Refusal → Type 0
+HeaderOf most image r = MatchResult r (Headed most image) (λ e. (in_order most image ≡ false) × (e ≡ Disordered))

@@ -6,7 +6,7 @@ ghost use Rattle.protocol.specs.Image.{Current, Recovery, Tentative, Checkpoint,
 ghost use Rattle.protocol.specs.Image.{allowed, exponent, shape_of, base, total};
 ghost use Rattle.layout.specs.Headers.{HeaderOf, decision_at};
 
-use protocol::Shape;
+use protocol::{Refusal, Shape};
 
 // The mark, hexadecimal 52 53 4D 31: what every header test compares and formatting stores.
 pub const MARK: [u8; 4] = *b"RSM1";
@@ -24,6 +24,7 @@ pub const GROUP_HIGH: usize = 11;
 pub const TAGS: usize = 12;
 
 // The power of two that a block size is; 7 for a number that is none of the seven.
+#[tactic(auto, unfolding(protocol::specs::Image::exponent, protocol::specs::Image::exponent_from))]
 pub fn exponent(size: usize) -> u8
     ensures { result ≡ exponent size }
 {
@@ -71,17 +72,11 @@ fn mark_ok(image: &[u8]) -> bool
     requires { 4 ≤ length image.now }
     ensures { result ≡ every 4 (λ i. eqb (byte image.now i) (byte mark i)) }
 {
-    let mut i = 0;
-    while i < 4 {
-        if image[i] != MARK[i] {
-            return false;
-        }
-        i += 1;
-    }
-    true
+    image.starts_with(&MARK)
 }
 
 // The shape that a header names.
+#[tactic(auto, unfolding(protocol::specs::Image::shape_of))]
 fn shape_of(image: &[u8]) -> Shape
     requires { (decision_at ≤ length image.now) × (byte image.now 5 ≤ 6) }
     ensures { result ≡ shape_of image.now }
@@ -96,6 +91,7 @@ fn shape_of(image: &[u8]) -> Shape
 }
 
 // The block of a cell. S is 2 to the power that byte 5 holds, so a shift by that byte divides by S.
+#[tactic(auto, unfolding(protocol::specs::Image::shape_of))]
 pub fn block_of(image: &[u8], cell: usize) -> usize
     requires { (decision_at ≤ length image.now) × (byte image.now 5 ≤ 6) }
     ensures { result ≡ cell / (shape_of image.now).size }
@@ -113,6 +109,7 @@ pub fn current_at(s: Shape) -> usize
 }
 
 // Each area begins where the one before it ends.
+#[tactic(auto, using(crate::proofs::Laws::bounded), unfolding(protocol::specs::Image::base))]
 pub fn recovery_at(s: Shape) -> usize
     requires { allowed s ≡ true }
     ensures { result ≡ base s Recovery }
@@ -120,6 +117,7 @@ pub fn recovery_at(s: Shape) -> usize
     current_at(s) + s.blocks * s.size
 }
 
+#[tactic(auto, using(crate::proofs::Laws::bounded), unfolding(protocol::specs::Image::base))]
 pub fn tentative_at(s: Shape) -> usize
     requires { allowed s ≡ true }
     ensures { result ≡ base s Tentative }
@@ -127,6 +125,7 @@ pub fn tentative_at(s: Shape) -> usize
     recovery_at(s) + s.blocks * s.size
 }
 
+#[tactic(auto, using(crate::proofs::Laws::bounded), unfolding(protocol::specs::Image::base))]
 pub fn checkpoint_at(s: Shape) -> usize
     requires { allowed s ≡ true }
     ensures { result ≡ base s Checkpoint }
@@ -142,37 +141,31 @@ pub fn total(s: Shape) -> usize
     checkpoint_at(s) + s.boards * s.context
 }
 
-// An image in order, with the shape that its header names, or one that is not.
-#[derive(Clone, Copy)]
-pub enum Header {
-    InOrder(Shape),
-    Disordered,
-}
-
-// The header of an image: the mark, an allowed shape, the exact length, byte 9 at most `most`.
-pub fn read_header(image: &[u8], most: u8) -> Header
+// The shape that the header of an image names: the mark, an allowed shape, the exact length, byte 9 at most `most`; or
+// the image is not in order.
+pub fn read_header(image: &[u8], most: u8) -> Result<Shape, Refusal>
     ensures { HeaderOf most image.now result }
 {
     if image.len() < TAGS {
-        return Header::Disordered;
+        return Err(Refusal::Disordered);
     }
     if !mark_ok(image) {
-        return Header::Disordered;
+        return Err(Refusal::Disordered);
     }
     if image[5] > 6 {
-        return Header::Disordered;
+        return Err(Refusal::Disordered);
     }
     let s = shape_of(image);
     if !allowed(s) {
-        return Header::Disordered;
+        return Err(Refusal::Disordered);
     }
     if image.len() != total(s) {
-        return Header::Disordered;
+        return Err(Refusal::Disordered);
     }
     if image[DECISION] > most {
-        return Header::Disordered;
+        return Err(Refusal::Disordered);
     }
-    Header::InOrder(s)
+    Ok(s)
 }
 
 // The byte that formatting stores at i of the header.

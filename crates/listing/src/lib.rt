@@ -1,37 +1,37 @@
 #![tactic(auto)]
-// The order of the boards' components, written into a lent buffer from a place on.
-ghost use Rattle.std.specs.Prelude.{◌+◌, ◌*◌, ◌≤◌, length, take};
-ghost use Rattle.digits.specs.Append.{Appends};
+// The order of the boards' components, written into a lent buffer.
+ghost use Rattle.std.specs.Prelude.{◌*◌, length};
+ghost use Rattle.digits.specs.Append.{HasRoom, Writes};
 ghost use Rattle.listing.specs.Listing.{component_lines, order_text};
 
-use digits::{put, put_decimal, put_group};
+use digits::Output;
 use order::order;
 use volatile::Record;
 
-// A line for each of the first `count` masks.
-fn put_lines(out: &mut [u8], at: usize, masks: [u16; 16], count: usize) -> usize
-    requires { (count ≤ 16) × (at + 5 * count ≤ length out.old) }
-    ensures { Appends (component_lines (take count masks)) at out.old result out.new }
+// A line for each mask.
+#[tactic(auto, using(digits::proofs::Laws::length_group, crate::proofs::Lines::length_lines))]
+fn put_lines(out: &mut Output, masks: &[u16])
+    requires { HasRoom (5 * length masks.now) out.old }
+    ensures { Writes (component_lines masks.now) out.old out.new }
 {
-    let mut next = at;
-    for x in 0..count {
-        let component = masks[x];
-        let end = put_group(out, next, component);
-        next = put(out, end, b'\n');
+    for component in masks {
+        out.put_group(*component);
+        out.put(b'\n');
     }
-    next
 }
 
 // The order: a line for each component, or the refusal's number.
-pub fn put_order(image: &[u8], state: Record, out: &mut [u8], at: usize) -> usize
-    requires { at + 80 ≤ length out.old }
-    ensures { Appends (order_text image.now state) at out.old result out.new }
+#[tactic(auto, using(digits::proofs::Laws::length_decimal))]
+pub fn put_order(image: &[u8], state: Record, out: &mut Output)
+    requires { HasRoom 80 out.old }
+    ensures { Writes (order_text image.now state) out.old out.new }
 {
     let mut masks = [0u16; 16];
-    let ordered = order(image, state, &mut masks);
-    if ordered.status != 0 {
-        let end = put_decimal(out, at, ordered.status as usize);
-        return put(out, end, b'\n');
+    match order(image, state, &mut masks) {
+        Ok(count) => put_lines(out, &masks[..count]),
+        Err(why) => {
+            out.put_decimal(why.number() as usize);
+            out.put(b'\n');
+        }
     }
-    put_lines(out, at, masks, ordered.count)
 }

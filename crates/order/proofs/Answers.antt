@@ -4,6 +4,7 @@ use mathlib.Core.Path.{◌≡◌, refl, sym, ◌∙◌, ap}
 use mathlib.Core.Bool.{Bool, true, false, not, cond}
 use mathlib.Core.List.{List, [], ◌∷◌}
 use mathlib.Core.Logic.{⊎_elim, ◌≢◌}
+use Rattle.std.specs.Prelude.{Ok, Err}
 use lib.Dec.{eqb}
 use lib.ListN.{length}
 use native.Mathlib.Omega.{arith}
@@ -22,20 +23,22 @@ use Rattle.protocol.specs.Image.{in_order, shape_of}
 use Rattle.protocol.specs.Calls.{Test, test, first, entry_tests, filled}
 use Rattle.protocol.specs.declared.Shape.{Shape}
 use Rattle.protocol.proofs.Bridge.{limits, order_sound}
+use Rattle.protocol.specs.Refusals.{number_of}
+use Rattle.protocol.specs.declared.Refusal.{Refusal}
 use Rattle.protocol.proofs.Refusals.{entered, first_held, first_passed, first_stops, entry_goes_on}
+use Rattle.protocol.proofs.Numbers.{refusal_not_zero}
 use Rattle.costs.specs.Forecasts.{commit_tests, commit_forecast}
 use Rattle.costs.proofs.Answers.{answered_status}
-use Rattle.order.specs.Call.{order_status, components, AnswersOrder, WithDependents, PutFrom}
+use Rattle.order.specs.Call.{order_status, components, ordered_says, AnswersOrder, WithDependents, PutFrom}
 use Rattle.order.specs.Claims.{RefusedAsForecast}
-use Rattle.order.specs.declared.Ordered.{Ordered}
 use Rattle.order.proofs.Next.{rows_bounded}
 
 -- ---- the tests, of which the first two are made as for board 0, which every shape has
 
 module _ (image : List ℕ) (r : Record) where
-  pub entry_stops : first (entry_tests image r 0) ≢ 0 → order_status image r ≡ first (entry_tests image r 0)
+  stops_so : first (entry_tests image r 0) ≢ 0 → order_status image r ≡ first (entry_tests image r 0)
   unfolding entry_tests first
-  entry_stops stops =
+  stops_so stops =
       ⊎_elim
       (λ (e : in_order 0 image ≡ true).
       ⊎_elim
@@ -46,6 +49,10 @@ module _ (image : List ℕ) (r : Record) where
       (decide (bad_record (shape_of image).boards r)))
       (λ (e : in_order 0 image ≡ false). rw e)
       (decide (in_order 0 image))
+
+  pub entry_stops : (why : Refusal) → first (entry_tests image r 0) ≡ number_of why
+      → order_status image r ≡ number_of why
+  entry_stops why e = stops_so (λ z. refusal_not_zero why (sym e ∙ z)) ∙ e
 
   -- the last one: whether a commit is open
   abbrev open_test : List Test
@@ -65,12 +72,13 @@ module _ (image : List ℕ) (r : Record) where
 
   -- ---- the answer
 
-  pub refused_so : {n : ℕ} {a : Ordered} {masks : List ℕ} → order_status image r ≡ n → n ≢ 0
-      → a ≡ record { status = n; count = 0 } → AnswersOrder image r masks a masks
+  pub refused_so : (why : Refusal) {masks : List ℕ} → order_status image r ≡ number_of why
+      → AnswersOrder image r masks (ordered_says (Err why)) masks
   unfolding components filled
-  refused_so {n} {a} {masks} e some same =
-      let stops : eqb (order_status image r) 0 ≡ false = ap (λ x. eqb x 0) e ∙ ne_eqb n 0 some in
-      record { answer = same ∙ rw (stops, e); masks_after = rw stops }
+  refused_so why e =
+      let stops : eqb (order_status image r) 0 ≡ false =
+      ap (λ x. eqb x 0) e ∙ ne_eqb (number_of why) 0 (refusal_not_zero why) in
+      record { answer = rw (stops, e); masks_after = rw stops }
 
 -- all boards are left: the code's rows are sixteen numbers of sixteen bits
 module _ (image : List ℕ) (r : Record) (rows : Sixteen r.rows) {s : Shape} (same : shape_of image ≡ s)
@@ -87,15 +95,15 @@ module _ (image : List ℕ) (r : Record) (rows : Sixteen r.rows) {s : Shape} (sa
     pub few_boards : count 16 (has (all_boards s.boards)) ≤ s.boards
     few_boards = omega (arith, boards_counted most)
 
-    pub taken_so : {n : ℕ} {a : Ordered} {masks after : List ℕ} → order_status image r ≡ 0
+    pub taken_so : {n : ℕ} {masks after : List ℕ} → order_status image r ≡ 0
         → PutFrom (links_of r.rows) (all_boards s.boards) 0 masks n after
-        → a ≡ record { status = 0; count = n } → AnswersOrder image r masks a after
+        → AnswersOrder image r masks (ordered_says (Ok n)) after
     unfolding components filled order depends
-    taken_so {n} {a} {masks} {after} z p e =
+    taken_so {n} {masks} {after} z p =
         let passes : eqb (order_status image r) 0 ≡ true = ap (λ x. eqb x 0) z in
         let count = p.end s.boards few_boards ∙ zero-add _ in
         record {
-          answer = e ∙ rw (passes, z, same) (ap (λ x. record { status = 0; count = x }) count);
+          answer = rw (passes, z, same) (ap (λ x. record { status = 0; count = x }) count);
           masks_after = rw (passes, same) (p.masks s.boards few_boards ∙ rw zero-add);
         }
 
@@ -138,5 +146,5 @@ refused_as_forecast image r =
     goes_on image r passes ∙ sym (told ∙ entry_goes_on image r 0 (open_test image r) passes))
     (λ (z : eqb (first entry) 0 ≡ false).
     let stops = eqb-false (first entry) 0 z in
-    entry_stops image r stops ∙ sym (told ∙ first_stops entry (open_test image r) stops))
+    stops_so image r stops ∙ sym (told ∙ first_stops entry (open_test image r) stops))
     (decide (eqb (first entry) 0))

@@ -11,13 +11,14 @@ use lib.Pow.{pow_pos, pow_mono, ones_split, high}
 use native.Mathlib.Omega.{arith}
 use native.Mathlib.Nat.{sub-zero}
 use borrow.Author.Tests.{eq-eqb, ne_eqb, lt-ltb, le-ltb}
+use Rattle.std.specs.Prelude.{Option, Some, None}
 use Rattle.boards.specs.Boards.{has, Links, commit_group, fault_group}
 use Rattle.boards.specs.Rows.{links_of}
 use Rattle.boards.proofs.Basics.{decide, clash, true_and, false_and, and_false, if_true, if_false, refute}
 use Rattle.boards.proofs.Groups.{below_or, has_below, has_small, has_zero, Bounded, Backward}
 use Rattle.boards.proofs.Masks.{has_and, has_not, mask_told, Sixteen}
 use Rattle.components.specs.Components.{intersection, component, ready, lowest, all_boards}
-use Rattle.components.proofs.Ready.{component_self, lowest_holds, lowest_least}
+use Rattle.components.proofs.Ready.{lowest_holds, lowest_least}
 use Rattle.components.proofs.Ready as next
 use Rattle.order.specs.Call.{WithDependents}
 
@@ -46,12 +47,12 @@ ones_shift p l =
 -- ---- one board
 
 module _ (d : Links) (left i : ℕ) where
-  abbrev answer : ℕ
-  answer = cond (ready d left i) (component d i) 0
+  abbrev answer : Option ℕ
+  answer = cond (ready d left i) (Some (component d i)) None
 
-  pub not_left : has left i ≡ false → 0 ≡ answer
+  pub not_left : has left i ≡ false → None ≡ answer
   unfolding ready
-  not_left e = sym (if_false (component d i) 0 (false_and _ e))
+  not_left e = sym (if_false (Some (component d i)) None (false_and _ e))
 
   module _ {needed own some : ℕ} (e : needed ≡ commit_group d i) (f : own ≡ intersection needed (fault_group d i))
       (g : some ≡ intersection needed left)
@@ -63,18 +64,18 @@ module _ (d : Links) (left i : ℕ) where
       some_is : some ≡ intersection (commit_group d i) left
       some_is = g ∙ ap (λ x. intersection x left) e
 
-      pub not_ready : some ≢ own → 0 ≡ answer
+      pub not_ready : some ≢ own → None ≡ answer
       unfolding ready
       not_ready q =
-          sym (if_false (component d i) 0
+          sym (if_false (Some (component d i)) None
           (and_false (has left i)
           (ne_eqb (intersection (commit_group d i) left) (component d i) (λ same. q (some_is ∙ same ∙ sym own_is)))))
 
-      pub is_ready : has left i ≡ true → some ≡ own → own ≡ answer
+      pub is_ready : has left i ≡ true → some ≡ own → Some own ≡ answer
       unfolding ready
       is_ready h q =
-          own_is
-          ∙ sym (if_true (component d i) 0
+          ap Some own_is
+          ∙ sym (if_true (Some (component d i)) None
           (true_and h (eq-eqb (intersection (commit_group d i) left) (component d i) (sym some_is ∙ q ∙ own_is))))
 
 -- ---- the first that may go next
@@ -96,19 +97,16 @@ rows_bounded {rows} s =
 
 module _ {d : Links} (b : Bounded 16 d) (left : ℕ) where
   -- a board whose component is answered may go next, another may not
-  pub answered_ready : (i own : ℕ) → own ≡ answer d left i → own ≢ 0 → (ready d left i ≡ true) × (own ≡ component d i)
-  answered_ready i own e some =
+  pub answered_ready : (i : ℕ) {own : ℕ} → Some own ≡ answer d left i → (ready d left i ≡ true) × (own ≡ component d i)
+  answered_ready i e =
       ⊎_elim
-      (λ r. (r, e ∙ if_true (component d i) 0 r))
-      (λ r. absurd (some (e ∙ if_false (component d i) 0 r)))
+      (λ r. let same = e ∙ if_true (Some (component d i)) None r in (r, cc))
+      (λ r. let none = e ∙ if_false (Some (component d i)) None r in absurd cc)
       (decide (ready d left i))
 
-  pub answered_none : (i own : ℕ) → i < 16 → own ≡ answer d left i → own ≡ 0 → ready d left i ≡ false
-  answered_none i own l e none =
-      refute (ready d left i)
-      (λ r.
-      clash (component_self b i l)
-      (ap (λ g. has g i) (sym (if_true (component d i) 0 r) ∙ sym e ∙ none) ∙ has_zero i))
+  pub answered_none : (i : ℕ) → None ≡ answer d left i → ready d left i ≡ false
+  answered_none i e =
+      refute (ready d left i) (λ r. let some = e ∙ if_true (Some (component d i)) None r in cc)
 
   -- the first that may go next is the lowest
   pub first_lowest : (i : ℕ) → i < 16 → ready d left i ≡ true → ((j : ℕ) → j < i → ready d left j ≡ false)

@@ -1,5 +1,6 @@
 -- The call `order` (document 02, Req 07): its tests, and the components that it answers.
 use Rattle.std.specs.Prelude.{ℕ, ◌+◌, ◌≤◌, ◌≡◌, true, not, cond, List, [], ◌∷◌, ◌++◌, eqb, length, take, drop}
+use Rattle.std.specs.Prelude.{Result, Ok, Err}
 use Rattle.boards.specs.Lists.{count}
 use Rattle.boards.specs.Boards.{has, Links}
 use Rattle.volatile.specs.Volatile.{depends, engaged, bad_record}
@@ -7,7 +8,8 @@ use Rattle.volatile.specs.declared.Record.{Record}
 use Rattle.components.specs.Components.{order_from, order}
 use Rattle.protocol.specs.Image.{shape_of, in_order}
 use Rattle.protocol.specs.Calls.{Test, test, first, filled}
-use Rattle.order.specs.declared.Ordered.{Ordered}
+use Rattle.protocol.specs.Refusals.{number_of}
+use Rattle.protocol.specs.declared.Refusal.{Refusal}
 
 -- 11 for the header, 12, 14
 abbrev pub order_tests : List ℕ → Record → List Test
@@ -23,6 +25,16 @@ order_status image r = first (order_tests image r)
 
 unfoldable pub components : List ℕ → Record → List ℕ
 components image r = cond (eqb (order_status image r) 0) (order (shape_of image).boards (depends r)) []
+
+-- 0 or the number of the refusal; how many components there are, 0 if refused
+pub record Ordered : Type 0 where
+  pub status : ℕ
+  pub count : ℕ
+
+-- what the code's answer is in these numbers
+abbrev pub ordered_says : Result ℕ Refusal → Ordered
+ordered_says (Ok n) = record { status = 0; count = n }
+ordered_says (Err e) = record { status = number_of e; count = 0 }
 
 -- What the call promises: status and count, and the lent masks afterwards, of which those from the count on stay.
 pub record AnswersOrder (image : List ℕ) (r : Record) (masks : List ℕ) (a : Ordered) (after : List ℕ) : Type 0 where

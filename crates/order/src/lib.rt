@@ -1,24 +1,18 @@
 #![tactic(auto)]
 // In which order the boards shall commit (document 02, Req 07): the strongly connected components of the dependences,
 // each after all that it depends on. Nothing is stored, and the record stays as it is.
-ghost use Rattle.std.specs.Prelude.{◌≡◌, cond, ◌+◌, ◌≤◌, ◌<◌, length};
+ghost use Rattle.std.specs.Prelude.{◌≡◌, Some, None, cond, ◌+◌, ◌≤◌, ◌<◌, length};
 ghost use Rattle.boards.specs.Lists.{count};
 ghost use Rattle.boards.specs.Boards.{has};
 ghost use Rattle.boards.specs.Rows.{links_of};
 ghost use Rattle.components.specs.Components.{intersection, component, ready, lowest, all_boards};
-ghost use Rattle.order.specs.Call.{AnswersOrder, WithDependents, PutFrom};
+ghost use Rattle.order.specs.Call.{AnswersOrder, ordered_says, WithDependents, PutFrom};
 
 use boards::sets;
-use entry::{Entry, enter};
+use entry::enter;
 use groups::{commit_closure, fault_closure};
+use protocol::Refusal;
 use volatile::Record;
-
-// 0 or the number of the refusal; how many components there are, 0 if refused.
-#[derive(Clone, Copy)]
-pub struct Ordered {
-    pub status: u8,
-    pub count: usize,
-}
 
 // The boards of both g and h.
 fn intersection(g: u16, h: u16) -> u16
@@ -27,21 +21,21 @@ fn intersection(g: u16, h: u16) -> u16
     g & h
 }
 
-// The component of board i if it may go next, else 0.
-fn ready_component(rows: [u16; 16], left: u16, i: u8) -> u16
+// The component of board i if it may go next.
+fn ready_component(rows: [u16; 16], left: u16, i: u8) -> Option<u16>
     requires { i < 16 }
-    ensures { result ≡ cond (ready (links_of rows) left i) (component (links_of rows) i) 0 }
+    ensures { result ≡ cond (ready (links_of rows) left i) (Some (component (links_of rows) i)) None }
 {
     if !sets::has(left, i) {
-        return 0;
+        return None;
     }
     let needed = commit_closure(rows, i);
     let dependents = fault_closure(rows, i);
     let own = intersection(needed.members, dependents.members);
     if intersection(needed.members, left) != own {
-        return 0;
+        return None;
     }
-    own
+    Some(own)
 }
 
 // The component of the lowest board that may go next.
@@ -49,13 +43,10 @@ fn next_component(rows: [u16; 16], left: u16) -> u16
     requires { (0 < left) × WithDependents (links_of rows) left }
     ensures { result ≡ component (links_of rows) (lowest 16 (ready (links_of rows) left)) }
 {
-    let mut i: u8 = 0;
-    while i < 16 {
-        let own = ready_component(rows, left, i);
-        if own != 0 {
+    for i in 0..16 {
+        if let Some(own) = ready_component(rows, left, i) {
             return own;
         }
-        i += 1;
     }
     // Not reached: some board left may go next.
     0
@@ -84,29 +75,16 @@ fn all_boards(p: u8) -> u16
     65535u16 >> (16 - p)
 }
 
-fn refused(n: u8) -> Ordered
-    ensures { result ≡ record { status = n; count = 0 } }
-{
-    Ordered {
-        status: n,
-        count: 0,
-    }
-}
-
-// Refused 11, 12, 14, and then all masks stay; else those from the count on do.
-pub fn order(image: &[u8], state: Record, masks: &mut [u16; 16]) -> Ordered
-    ensures { AnswersOrder image.now state masks.old result masks.new }
+// How many components there are. Refused 11, 12, 14, and then all masks stay; else those from the count on do.
+pub fn order(image: &[u8], state: Record, masks: &mut [u16; 16]) -> Result<usize, Refusal>
+    ensures { AnswersOrder image.now state masks.old (ordered_says result) masks.new }
 {
     // Board 0 is below P in every header in order: 1 is never answered.
-    let entry = enter(image, state, 0);
-    let Entry::Taken(s) = entry else {
-        return refused(entry.number());
-    };
+    let s = enter(image, state, 0)?;
     if state.engaged() != 0 {
-        return refused(14);
+        return Err(Refusal::CommitOpen);
     }
     let rows = state.rows;
     let all = all_boards(s.boards as u8);
-    let count = order_from(rows, all, masks, 0);
-    Ordered { status: 0, count }
+    Ok(order_from(rows, all, masks, 0))
 }

@@ -9,6 +9,7 @@ use lib.Dec.{eqb}
 use lib.ListN.{length}
 use native.Mathlib.Omega.{arith}
 use borrow.Author.Tests.{eqb-true}
+use Rattle.std.specs.Prelude.{Some, None}
 use Rattle.boards.specs.Boards.{has, tagged_in}
 use Rattle.boards.proofs.Basics.{decide}
 use Rattle.boards.proofs.Groups.{mask_below}
@@ -23,7 +24,6 @@ use Rattle.costs.proofs.Counted.{those_most}
 use Rattle.text.specs.Events.{Event, Format, Make, Allow, Refused}
 use Rattle.text.specs.Turns.{Player}
 use Rattle.page.specs.declared.Saved.{Saved}
-use Rattle.page.specs.declared.Decided.TheVariants.{Nothing, Commit}
 use Rattle.page.specs.Saving.{saved, saved_by, decided_by}
 use Rattle.page.proofs.Decisions.{says_decided, gives_group, Decides, decided_call}
 
@@ -40,17 +40,17 @@ saved_fits s m g fine =
 
 -- ---- the commit that a call decided
 
-none_decided : {c : Saved} {X : Type 0} → Nothing ≡ Commit c → X
+none_decided : {c : Saved} {X : Type 0} → None ≡ Some c → X
 none_decided d = let z : ◌≡◌ {A = ℕ} 0 1 = cc in absurd (omega arith)
 
-module _ (p : Player) (request : Request) {c : Saved} (d : decided_by p (Make request) ≡ Commit c) where
+module _ (p : Player) (request : Request) {c : Saved} (d : decided_by p (Make request) ≡ Some c) where
   -- it is answered so, and saves that
   decided_so : (says_decided p.image p.state request p.k ≡ true) × (saved_by p request ≡ c)
   unfolding decided_by
   decided_so =
       let said = says_decided p.image p.state request p.k in
       ⊎_elim
-      (λ (e : said ≡ true). let same : Commit (saved_by p request) ≡ Commit c = rw e at d in (e, cc))
+      (λ (e : said ≡ true). let same : Some (saved_by p request) ≡ Some c = rw e at d in (e, cc))
       (λ (e : said ≡ false). none_decided (rw e at d))
       (decide said)
 
@@ -69,7 +69,7 @@ members_small {image} {r} d =
     let small = mask_below 16 (λ j. has d.before.commit.acknowledged j || eqb d.i j) in
     omega arith
 
-pub decided_fits : (p : Player) (e : Event) (c : Saved) → decided_by p e ≡ Commit c
+pub decided_fits : (p : Player) (e : Event) (c : Saved) → decided_by p e ≡ Some c
     → (c.members < 65536) × (c.blocks ≤ 1024) × (c.bytes ≤ 17408)
 unfolding decided_by saved
 decided_fits p (Format s) c d = none_decided d

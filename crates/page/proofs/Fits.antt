@@ -8,12 +8,11 @@ use lib.ListN.{length, length-take}
 use native.Mathlib.Omega.{arith}
 use native.Mathlib.Nat.{mul-suc}
 use borrow.Author.Tests.{lt-ltb}
+use Rattle.std.specs.Prelude.{Option, Some, None}
 use Rattle.boards.proofs.Basics.{true_and, All, none, also, all_append, all_cond, all_map, all_take, any_of_false}
 use Rattle.text.specs.Events.{taken}
 use Rattle.text.specs.Whole.{Line, lines, Run, start, most_lines, next_run}
 use Rattle.page.specs.declared.Saved.{Saved}
-use Rattle.page.specs.declared.Decided.{Decided}
-use Rattle.page.specs.declared.Decided.TheVariants.{Nothing, Commit}
 use Rattle.page.specs.Page.{most_commits}
 use Rattle.page.specs.Claims.{listed, commits, printed, sum, fits, NumbersFit}
 use Rattle.page.proofs.Bounds.{decided_fits}
@@ -37,10 +36,10 @@ few_printed : (text : List ℕ) → length (printed text) ≤ most_commits
 unfolding printed
 few_printed text = omega (arith, length-take most_commits (commits start (lines text)))
 
-all_listed : {P : Saved → Type 0} (d : Decided) → ((c : Saved) → d ≡ Commit c → P c) → All P (listed d)
+all_listed : {P : Saved → Type 0} (d : Option Saved) → ((c : Saved) → d ≡ Some c → P c) → All P (listed d)
 unfolding listed
-all_listed Nothing h = none
-all_listed (Commit c) h = also (h c refl) none
+all_listed None h = none
+all_listed (Some c) h = also (h c refl) none
 
 all_small : (ls : List Line) (r : Run) → All Small (commits r ls)
 unfolding commits

@@ -9,14 +9,13 @@ use lib.Seq.{take-nil}
 use native.Mathlib.Omega.{arith}
 use native.Mathlib.Nat.{zero-add, add-zero, add_assoc}
 use borrow.Author.Tests.{lt-ltb, le-ltb, le-leb, lt-leb, ne_eqb, eq-eqb}
+use Rattle.std.specs.Prelude.{Option, Some, None}
 use Rattle.boards.proofs.Basics.{true_and, false_and, and_false, if_true, if_false, All, none, also, any_of_false}
 use Rattle.text.specs.Fields.{line_feed}
 use Rattle.text.specs.Events.{taken}
 use Rattle.text.specs.Whole.{Line, lines, grown, output_by, Run, start, most_lines, next_run}
 use Rattle.text.proofs.Steps.{output_goes, output_ends}
 use Rattle.page.specs.declared.Saved.{Saved}
-use Rattle.page.specs.declared.Decided.{Decided}
-use Rattle.page.specs.declared.Decided.TheVariants.{Nothing, Commit}
 use Rattle.page.specs.declared.Totals.{Totals}
 use Rattle.page.specs.Saving.{decided_by}
 use Rattle.page.specs.Columns.{commit_line, total_line}
@@ -91,16 +90,16 @@ module _ (t : Totals) (c : Saved) where
   one_too_many r h = and_false (ltb r.played most_lines) (lt-leb (suc t.commits) most_commits (omega arith))
 
 -- what a line decided, and what follows it
-after_line : (ls : List Line) (r : Run) (t : Totals) (k : ℕ) (d : Decided) (cs : List Saved)
+after_line : (ls : List Line) (r : Run) (t : Totals) (k : ℕ) (d : Option Saved) (cs : List Saved)
     → t.commits + k ≡ most_commits
     → ((u : Totals) (j : ℕ) → u.commits + j ≡ most_commits → output_by rsmpage (sheet r u) ls ≡ following j u cs)
     → decided_text t d ++ output_by rsmpage (sheet r (totals_after t d)) ls ≡ following k t (listed d ++ cs)
 unfolding decided_text totals_after listed added
-after_line ls r t k Nothing cs h rest = rest t k h
-after_line ls r t zero (Commit c) cs h rest =
+after_line ls r t k None cs h rest = rest t k h
+after_line ls r t zero (Some c) cs h rest =
     let full : most_commits ≤ t.commits = omega arith in
     rw (is_full t full) (page_closed r (counted t c) ls (one_too_many t c r full) ∙ sym (none_printed t (c ∷ cs)))
-after_line ls r t (suc k) (Commit c) cs h rest =
+after_line ls r t (suc k) (Some c) cs h rest =
     rw (has_room t (omega arith), rest (summed t c) k (omega arith)) (one_more t c k cs)
 
 page_from : (ls : List Line) (r : Run) (t : Totals) (k : ℕ) → t.commits + k ≡ most_commits
@@ -109,7 +108,7 @@ unfolding commits output_by rsmpage page_goes
 page_from [] r t k h = sym (none_comes k t)
 page_from (l ∷ ls) r t k h = go (ltb r.played most_lines) refl (page_from ls (next_run r l))
   where
-    d : Decided
+    d : Option Saved
     d = decided_by r.player (taken l)
 
     cs : List Saved

@@ -1,18 +1,16 @@
 -- That pages are right (document 02, Req 05).
 use Rattle.std.specs.Prelude.{ℕ, suc, ◌+◌, ◌-◌, ◌*◌, ◌^◌, ◌<◌, ◌≡◌, Bool, false, ◌&&◌, not, cond, List, [], ◌∷◌}
-use Rattle.std.specs.Prelude.{◌++◌, eqb, ltb, length, take}
+use Rattle.std.specs.Prelude.{◌++◌, eqb, ltb, length, take, Option, Some, None}
 use Rattle.boards.specs.Lists.{any_of}
 use Rattle.protocol.specs.Image.{Memory, Decision, shape_of, view}
 use Rattle.protocol.specs.Calls.{Request, stored_group, perform}
-use Rattle.protocol.specs.declared.Answer.{Answer}
+use Rattle.protocol.specs.Answers.{Answer}
 use Rattle.protocol.specs.declared.Shape.{Shape}
 use Rattle.costs.specs.Forecasts.{boards_of, tagged_blocks}
 use Rattle.text.specs.Events.{Event, Make, taken}
 use Rattle.text.specs.Turns.{Player, play}
 use Rattle.text.specs.Whole.{Line, lines, Run, start, most_lines, next_run}
 use Rattle.page.specs.declared.Saved.{Saved}
-use Rattle.page.specs.declared.Decided.{Decided}
-use Rattle.page.specs.declared.Decided.TheVariants.{Nothing, Commit}
 use Rattle.page.specs.declared.Totals.{Totals}
 use Rattle.page.specs.Saving.{decided_by}
 use Rattle.page.specs.Columns.{blank, padded, commit_line, total_line}
@@ -20,9 +18,9 @@ use Rattle.page.specs.Page.{most_commits, full_status, added, decided_text, page
 
 -- ---- a page is the list of its commits
 
-unfoldable pub listed : Decided → List Saved
-listed Nothing = []
-listed (Commit c) = c ∷ []
+unfoldable pub listed : Option Saved → List Saved
+listed None = []
+listed (Some c) = c ∷ []
 
 -- the decided commits of lines from a run on, of which a run takes no more than `most_lines`
 unfoldable pub commits : Run → List Line → List Saved
@@ -85,7 +83,7 @@ pub record Answered18 (t : Totals) (c : Saved) (r : Run) : Type 0 where
   pub printed : t.commits < most_commits
       → (full_status t ≡ 0) × (page_goes (record { run = r; totals = added t c }) ≡ ltb r.played most_lines)
   pub full : t.commits ≡ most_commits
-      → (full_status t ≡ 18) × (decided_text t (Commit c) ≡ []) × ((added t c).blocks ≡ t.blocks)
+      → (full_status t ≡ 18) × (decided_text t (Some c) ≡ []) × ((added t c).blocks ≡ t.blocks)
       × ((added t c).bytes ≡ t.bytes) × (page_goes (record { run = r; totals = added t c }) ≡ false)
 
 abbrev pub FullAnswers18 : Type 0
@@ -111,7 +109,7 @@ pub record DecidedSo (s : Shape) (m : Memory) (answer : ℕ → Answer) (c : Sav
 abbrev pub CommitsRight : Type 0
 CommitsRight =
     (p : Player) (request : Request) (c : Saved)
-    → decided_by p (Make request) ≡ Commit c
+    → decided_by p (Make request) ≡ Some c
     → let s = shape_of p.image in
     let call = perform p.image p.state request in
     ((call (s.context + 2)).reply.answer.decided ≡ false)

@@ -1,11 +1,9 @@
 -- The page of a text: a line for each decided commit, and the total line (document 02, Req 05). The lines of the text
 -- are played as `rsmrun` plays them.
-use Rattle.std.specs.Prelude.{ℕ, suc, ◌+◌, Bool, ◌&&◌, cond, List, [], eqb, ltb, leb}
+use Rattle.std.specs.Prelude.{ℕ, suc, ◌+◌, Bool, ◌&&◌, cond, List, [], eqb, ltb, leb, Option, Some, None}
 use Rattle.text.specs.Events.{taken}
 use Rattle.text.specs.Whole.{Line, lines, Step, Goes, Ends, Program, output_by, Run, start, most_lines, next_run}
 use Rattle.page.specs.declared.Saved.{Saved}
-use Rattle.page.specs.declared.Decided.{Decided}
-use Rattle.page.specs.declared.Decided.TheVariants.{Nothing, Commit}
 use Rattle.page.specs.declared.Totals.{Totals}
 use Rattle.page.specs.Saving.{decided_by}
 use Rattle.page.specs.Columns.{commit_line, total_line}
@@ -29,14 +27,14 @@ added t c =
     (record { commits = suc t.commits; blocks = t.blocks + c.blocks; bytes = t.bytes + c.bytes })
     (record { commits = suc t.commits; blocks = t.blocks; bytes = t.bytes })
 
-unfoldable pub totals_after : Totals → Decided → Totals
-totals_after t Nothing = t
-totals_after t (Commit c) = added t c
+unfoldable pub totals_after : Totals → Option Saved → Totals
+totals_after t None = t
+totals_after t (Some c) = added t c
 
 -- and printed, with its count
-unfoldable pub decided_text : Totals → Decided → List ℕ
-decided_text t Nothing = []
-decided_text t (Commit c) = cond (eqb (full_status t) 0) (commit_line (suc t.commits) c) []
+unfoldable pub decided_text : Totals → Option Saved → List ℕ
+decided_text t None = []
+decided_text t (Some c) = cond (eqb (full_status t) 0) (commit_line (suc t.commits) c) []
 
 -- a run, and the totals of its commits
 pub record Page : Type 0 where

@@ -11,15 +11,8 @@ pub struct Saved {
     pub bytes: usize,
 }
 
-// The commit that a line decided, if it decided one.
-#[derive(Clone, Copy)]
-pub enum Decided {
-    Nothing,
-    Commit(Saved),
-}
-
 // How many commits were decided, and the sums over those that were printed.
-#[derive(Clone, Copy)]
+#[derive(Clone, Copy, Default)]
 pub struct Totals {
     pub commits: usize,
     pub blocks: usize,

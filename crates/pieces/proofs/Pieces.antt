@@ -1,15 +1,15 @@
 -- One line more of a piece, and what is kept of it.
 use Prim.Native.Nat.{ℕ, zero, suc, ◌+◌, ◌-◌, ◌≤◌, ◌<◌}
 use mathlib.Core.Path.{◌≡◌, refl, sym, ◌∙◌, ap, subst}
+use mathlib.Core.Bool.{true, false}
 use mathlib.Core.List.{List, [], ◌∷◌, ◌++◌, append_assoc}
 use mathlib.Core.Logic.{⊎_elim}
 use native.Mathlib.Omega.{arith}
-use native.Mathlib.Nat.{add_comm}
-use native.Mathlib.Numerals.{add-one}
-use lib.Dec.{ltb}
-use lib.ListN.{length, take, drop, set, get_or, length-drop}
-use lib.Seq.{take_all, drop-drop, take-suc, take-suc-set, drop-set-lt, get_or-drop, length-take-le, take-take}
-use borrow.Author.Tests.{ltb-true, ltb-false}
+use lib.Dec.{leb}
+use lib.ListN.{length, take, drop, length-drop}
+use lib.Seq.{take_all, drop-drop, length-take-le, take-take, take-paste}
+use borrow.Author.Tests.{leb-true, leb-false}
+use Rattle.std.specs.List.{copy_within}
 use Rattle.boards.proofs.Basics.{decide}
 use Rattle.text.specs.Fields.{line_feed, until, past}
 use Rattle.text.specs.Whole.{lines, Goes, Ends, Program, output_by}
@@ -80,33 +80,13 @@ module _ {S : Type 0} (p : Program S) where
 
 -- ---- what is kept
 
--- one byte more is moved down
-pub moved_more : (b x : List ℕ) (from i : ℕ) → from + i < length b → length x ≡ length b →
-    take i x ≡ take i (drop from b) → drop i x ≡ drop i b →
-    (take (i + 1) (set x i (get_or x (from + i) 0)) ≡ take (i + 1) (drop from b))
-    × (drop (i + 1) (set x i (get_or x (from + i) 0)) ≡ drop (i + 1) b)
-moved_more b x from i l same front back =
-    let byte : get_or x (from + i) 0 ≡ get_or (drop from b) i 0 =
-    ap (λ (k : ℕ). get_or x k 0) (add_comm from i) ∙ sym (get_or-drop i x from 0)
-    ∙ ap (λ (y : List ℕ). get_or y from 0) back
-    ∙ get_or-drop i b from 0 ∙ ap (λ (k : ℕ). get_or b k 0) (add_comm i from) ∙ sym (get_or-drop from b i 0)
-    in (
-      rw (add-one i)
-          (take-suc-set x i (get_or x (from + i) 0) (omega arith)
-          ∙ rw (front, byte) (sym (take-suc (drop from b) i 0 (omega (arith, length-drop from b))))),
-      rw (add-one i)
-          (drop-set-lt (suc i) x i (get_or x (from + i) 0) (omega arith)
-          ∙ sym (rw add-one at (drop-drop 1 i x)) ∙ ap (drop 1) back ∙ rw add-one at (drop-drop 1 i b)),
-    )
-
 abbrev kept_of : Stop → List ℕ → List ℕ
 kept_of stop rest = take (kept_length stop (length rest)) rest
 
 -- no more is kept than there is
 pub kept_most : (stop : Stop) (n : ℕ) → kept_length stop n ≤ n
 unfolding kept_length
-kept_most Unfinished n =
-    ⊎_elim (λ h. rw h (omega (arith, ltb-true 161 n h))) (λ h. rw h (omega arith)) (decide (ltb 161 n))
+kept_most Unfinished n = omega arith
 kept_most Full n = omega arith
 kept_most Limit n = omega arith
 
@@ -117,17 +97,28 @@ part_within n (suc from) zero l h = absurd (omega arith)
 part_within n (suc from) (suc end) [] h = refl
 part_within n (suc from) (suc end) (x ∷ l) h = part_within n from end l (omega arith)
 
--- what was moved down is what is kept of a piece's rest
+-- the first bytes after a part was moved to the start
+copied_down : (xs : List ℕ) (from n : ℕ) → from + n ≤ length xs →
+    take n (copy_within xs from (from + n) 0) ≡ take n (drop from xs)
+copied_down xs from n l =
+    let size : from + n - from ≡ n = omega arith in
+    let none : 0 + n ≡ n = omega arith in
+    rw size (rw none (rw none at (take-paste xs 0 (drop from xs) n (omega arith) (omega (arith, length-drop from xs)))))
+
+-- what was moved to the start is what is kept of a piece's rest
 pub kept_down : (stop : Stop) (input : List ℕ) {read end held : ℕ} {after : List ℕ} → read ≤ end → end ≤ length input →
-    held ≡ kept_length stop (end - read) → take held after ≡ take held (drop read input) →
+    held ≡ kept_length stop (end - read) → after ≡ copy_within input read (read + held) 0 →
     Keeps stop (drop read (take end input)) held after
 kept_down stop input {read} {end} {held} l m h moved =
+    let most : held ≤ end - read = omega (arith, kept_most stop (end - read)) in
     let left : length (drop read (take end input)) ≡ end - read =
     length-drop read (take end input) ∙ ap (λ (n : ℕ). n - read) (length-take-le end input m)
     in
     record {
       size = h ∙ ap (kept_length stop) (sym left);
-      same = moved ∙ sym (part_within held read end input (omega (arith, h, kept_most stop (end - read))));
+      same =
+          ap (take held) moved ∙ copied_down input read held (omega arith)
+          ∙ sym (part_within held read end input (omega arith));
     }
 
 -- the kept characters at the input's start
@@ -145,9 +136,15 @@ module _ {stop : Stop} {rest : List ℕ} {held : ℕ} {input : List ℕ} (k : Ke
           output_by p v (lines (rest ++ more)) ≡ output_by p v (lines (kept_of s rest ++ more))
       go Unfinished u =
           ⊎_elim
-          (λ e. rw e (kept_enough p alike v rest more u (omega (arith, ltb-true 161 (length rest) e))))
-          (λ e. rw (e, take_all (length rest) rest (omega arith)))
-          (decide (ltb 161 (length rest)))
+          (λ (long : leb 161 (length rest) ≡ true).
+          let l = leb-true 161 (length rest) long in
+          let most : kept_length Unfinished (length rest) ≡ 161 = omega (arith, l) in
+          rw most (kept_enough p alike v rest more u l))
+          (λ (short : leb 161 (length rest) ≡ false).
+          let l = leb-false 161 (length rest) short in
+          let all : kept_length Unfinished (length rest) ≡ length rest = omega (arith, l) in
+          rw (all, take_all (length rest) rest (omega arith)))
+          (decide (leb 161 (length rest)))
       go Full u = rw (take_all (length rest) rest (omega arith))
       go Limit u = exhausted p v u (lines (rest ++ more)) ∙ sym (exhausted p v u (lines more))
 
@@ -159,9 +156,7 @@ module _ {stop : Stop} {rest : List ℕ} {held : ℕ} {input : List ℕ} (k : Ke
       go : (s : Stop) → held ≡ kept_length s (length rest) → take held input ≡ kept_of s rest →
           (s ≡ Unfinished → Unbroken rest) → Kept s held input
       go Unfinished h same u = (
-        rw h
-            (⊎_elim (λ t. rw t (omega arith)) (λ t. rw t (omega (arith, ltb-false 161 (length rest) t)))
-            (decide (ltb 161 (length rest)))),
+        omega (arith, h),
         omega (arith, kept_most Unfinished (length rest)),
         rw same (unbroken_take (kept_length Unfinished (length rest)) rest (u refl)),
       )

@@ -1,9 +1,7 @@
 -- An input that is read piece by piece: what its lines give, and what is kept of it.
-use Rattle.std.specs.Prelude.{ℕ, ◌+◌, ◌-◌, ◌≤◌, ◌<◌, ◌≡◌, cond, List, ◌++◌, ltb, length, take, drop}
+use Rattle.std.specs.Prelude.{ℕ, ◌+◌, ◌-◌, ◌≤◌, ◌<◌, ◌≡◌, min, List, ◌++◌, length, take, drop, Option, Some, None}
 use Rattle.text.specs.Fields.{line_feed, until, past}
 use Rattle.text.specs.Whole.{Line, lines, Ends, Program, output_by}
-use Rattle.pieces.specs.declared.NextLine.{NextLine}
-use Rattle.pieces.specs.declared.NextLine.TheVariants as next
 use Rattle.pieces.specs.declared.Stop.{Stop}
 use Rattle.pieces.specs.declared.Stop.TheVariants.{Unfinished, Full, Limit}
 
@@ -24,9 +22,9 @@ pub record WholeLine (piece : List ℕ) (read end : ℕ) : Type 0 where
   pub rest : drop (end + 1) piece ≡ past line_feed (drop read piece)
   pub broken : Broken (drop read piece)
 
-abbrev pub IsNextLine : List ℕ → ℕ → NextLine → Type 0
-IsNextLine piece read (next.EndsAt end) = WholeLine piece read end
-IsNextLine piece read next.Unfinished = Unbroken (drop read piece)
+abbrev pub IsNextLine : List ℕ → ℕ → Option ℕ → Type 0
+IsNextLine piece read (Some end) = WholeLine piece read end
+IsNextLine piece read None = Unbroken (drop read piece)
 
 -- A program's state w became v by the lines of a piece up to `read`, which gave this text: whatever follows the piece,
 -- what is still to be written is what the rest gives.
@@ -38,7 +36,7 @@ Output p w piece v read text = (more : List ℕ) →
 
 -- how much is kept of a rest of n characters
 unfoldable pub kept_length : Stop → ℕ → ℕ
-kept_length Unfinished n = cond (ltb 161 n) 161 n
+kept_length Unfinished n = min n 161
 kept_length Full n = n
 kept_length Limit n = 0
 

@@ -1,34 +1,31 @@
--- The storing request of a letter answers no bytes.
+-- A storing call on the image at the area's start, and its turn.
 use Prim.Native.Nat.{ℕ}
-use mathlib.Core.Path.{◌≡◌, refl}
-use mathlib.Core.Bool.{Bool, true, false, cond}
+use mathlib.Core.Path.{◌≡◌}
 use mathlib.Core.List.{List, []}
-use lib.Dec.{eqb}
-use Rattle.protocol.specs.Calls.{Request, Write, Start, Acknowledge, Fault, PowerUp, perform, plan, acknowledging}
-use Rattle.protocol.specs.declared.Requester.TheVariants.{Board}
-use Rattle.volatile.specs.declared.Record.{Record}
-use Rattle.text.specs.Letters.{write_letter, start_letter, acknowledge_letter, fault_letter}
+use native.Mathlib.Omega.{arith}
+use lib.ListN.{take}
+use Rattle.protocol.specs.Image.{Memory}
+use Rattle.protocol.specs.Calls.{Request, plan}
+use Rattle.protocol.specs.declared.Shape.{Shape}
+use Rattle.protocol.specs.Answers.{reply_says}
+use Rattle.protocol.specs.declared.Reply.{Reply}
+use Rattle.store.specs.Promise.{Performed}
+use Rattle.text.specs.Events.{Make}
+use Rattle.text.specs.Turns.{request_letter, ended, play}
+use Rattle.turns.specs.Turned.{player_of, Ready, Turns}
+use Rattle.turns.specs.declared.Session.{Session}
+use Rattle.turns.specs.declared.Turned.{Turned}
 use Rattle.turns.proofs.Laws.{no_bytes}
-use Rattle.player.specs.Requests.{request_of}
+use Rattle.turns.proofs.Turning.{lent, left, called}
 
-pub quiet : (letter i a : ℕ) (bytes : List ℕ) (k : ℕ) (image : List ℕ) (r : Record) →
-    [] ≡ (perform image r (request_of letter i a bytes) k).bytes
-unfolding request_of plan acknowledging
-quiet letter i a bytes k image r =
-    step (eqb letter write_letter) (eqb letter start_letter) (eqb letter acknowledge_letter) (eqb letter fault_letter)
-  where
-    Silent : Request → Type 0
-    Silent request = [] ≡ (perform image r request k).bytes
-
-    either : (b : Bool) (x y : Request) → Silent x → Silent y → Silent (cond b x y)
-    either true x y p q = p
-    either false x y p q = q
-
-    step : (w c d x : Bool) →
-        Silent (cond w (Write (Board i) a bytes)
-        (cond c (Start i bytes) (cond d (Acknowledge i bytes) (cond x (Fault i) PowerUp))))
-    step w c d x =
-        either w _ _ (no_bytes image r (Write (Board i) a bytes) k refl)
-        (either c _ _ (no_bytes image r (Start i bytes) k refl)
-        (either d _ _ (no_bytes image r (Acknowledge i bytes) k refl)
-        (either x _ _ (no_bytes image r (Fault i) k refl) (no_bytes image r PowerUp k refl))))
+-- a call that plans no bytes: its turn is the one that its reply and the area are ended with
+pub stored : (request : Request) (p : Session) (area : List ℕ) → Ready p area
+    → ((s : Shape) (m : Memory) → (plan s m p.state request).bytes ≡ [])
+    → {reply : Reply} {part : List ℕ} → Performed request p.k (lent p.length area) p.state reply part
+    → {r : Turned} {x buffer : List ℕ} → Turns (ended (request_letter request)
+    (record { reply = reply_says reply; image = take p.length (left p.length area part); bytes = [] })) r x buffer
+    → Turns (play (player_of p area) (Make request)) r x buffer
+unfolding play
+stored request p area ready none made t =
+    called request p.k p.state area p.length (omega (arith, ready.whole, ready.fits)) made (request_letter request)
+    (no_bytes (take p.length area) p.state request p.k (none _ _)) t

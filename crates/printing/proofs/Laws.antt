@@ -1,18 +1,21 @@
 -- A row is its parts, and how long they are; the rows of a line.
-use Prim.Native.Nat.{ℕ, ◌+◌, ◌-◌, ◌*◌, ◌≤◌}
+use Prim.Native.Nat.{ℕ, ◌+◌, ◌*◌, ◌≤◌}
 use mathlib.Core.Path.{◌≡◌}
 use mathlib.Core.Bool.{Bool}
 use mathlib.Core.List.{List, [], ◌++◌, append_assoc, append-nil}
 use lib.ListN.{length, take, length-append}
 use native.Mathlib.Omega.{arith}
-use native.Mathlib.Nat.{sub-zero}
-use Rattle.protocol.specs.declared.Answer.{Answer}
-use Rattle.text.specs.Letters.{power_up_letter}
+use Rattle.protocol.specs.Answers.{Answer}
+use Rattle.text.specs.Letters.{power_up_letter, row_character}
 use Rattle.text.specs.Rows.{decimal, row_text, rows_text, following, rows_meant}
-use Rattle.text.specs.declared.Follows.TheVariants.{Nothing, PowerUp}
+use Rattle.std.specs.Prelude.{None, Some, Result}
+use Rattle.protocol.specs.Answers.{answer_says}
+use Rattle.protocol.specs.declared.Answer.{Answer as Taken}
+use Rattle.protocol.specs.declared.Refusal.{Refusal}
 use Rattle.text.specs.declared.Rows.{Rows}
-use Rattle.digits.specs.Append.{Appends}
-use Rattle.digits.proofs.Laws.{appends_then, length_decimal, length_group, length_bytes}
+use Rattle.digits.specs.Append.{Writes}
+use Rattle.digits.specs.declared.Output.{Output}
+use Rattle.digits.proofs.Laws.{writes_then, length_decimal, length_group, length_bytes}
 use Rattle.printing.specs.Parts.{head_text, middle_text, tail_text}
 
 pub length_head : (number letter status : ℕ) → length (head_text number letter status) ≤ 13
@@ -43,22 +46,23 @@ length_row n letter a bs =
     (omega
     (arith, length_head n letter a.status, length_middle a.decided a.group, length_tail a.stores bs)))
 
--- ---- the rows of a line, of which the first was written; its bytes as the borrow checker has them
+-- ---- the rows of a line, of which the first was written
 
-module _ (number : ℕ) (rows : Rows) (buffer : List ℕ) {at : ℕ} {b y : List ℕ} {r : ℕ}
-    (m : Appends
+module _ (number : ℕ) (rows : Rows) (buffer : List ℕ) {a b : Output}
+    (m : Writes
     (row_text number
     (record {
-      letter = rows.first.letter;
-      answer = rows.first.answer;
-      bytes = take (rows.first.count - 0) buffer;
-    })) at b r y) where
-  pub rows_alone : rows.after ≡ Nothing → Appends (rows_text number (rows_meant rows buffer)) at b r y
-  unfolding rows_text rows_meant following
-  rows_alone e = rw (e, append-nil) (rw sub-zero at m)
+      letter = row_character rows.first.letter;
+      answer = answer_says rows.first.answer;
+      bytes = take rows.first.count buffer;
+    })) a b)
+  where
+    pub rows_alone : rows.after ≡ None → Writes (rows_text number (rows_meant rows buffer)) a b
+    unfolding rows_text rows_meant following
+    rows_alone e = rw (e, append-nil) m
 
-  pub rows_both : {a : Answer} {e : ℕ} {w : List ℕ} → rows.after ≡ PowerUp a →
-      Appends (row_text number (record { letter = power_up_letter; answer = a; bytes = [] })) r y e w →
-      Appends (rows_text number (rows_meant rows buffer)) at b e w
-  unfolding rows_text rows_meant following
-  rows_both e n = rw (e, append-nil) (appends_then (rw sub-zero at m) n)
+    pub rows_both : {answer : Result Taken Refusal} {c : Output} → rows.after ≡ Some answer
+        → Writes (row_text number (record { letter = power_up_letter; answer = answer_says answer; bytes = [] })) b c
+        → Writes (rows_text number (rows_meant rows buffer)) a c
+    unfolding rows_text rows_meant following
+    rows_both e n = rw (e, append-nil) (writes_then m n)

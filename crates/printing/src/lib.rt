@@ -1,96 +1,104 @@
 #![tactic(auto)]
-// Output lines, written into a lent buffer from a place on.
-ghost use Rattle.std.specs.Prelude.{◌+◌, ◌*◌, ◌≤◌, length};
+// Output lines, written into a lent buffer.
+ghost use Rattle.std.specs.Prelude.{◌≡◌, ◌+◌, ◌*◌, ◌≤◌, length};
+ghost use Rattle.protocol.specs.Answers.{answer_says};
 ghost use Rattle.text.specs.Rows.{row_text, rows_text, rows_meant};
-ghost use Rattle.digits.specs.Append.{Appends};
+ghost use Rattle.digits.specs.Append.{HasRoom, Writes};
 ghost use Rattle.printing.specs.Parts.{between, head_text, middle_text, tail_text};
 
-use digits::{put, put_bytes, put_decimal, put_group};
-use protocol::Answer;
-use text::{Follows, POWER_UP, Rows};
+use digits::Output;
+use protocol::{Answer, Refusal, status_of};
+use text::{Letter, Rows};
 
 // A character between commas.
-fn put_between(out: &mut [u8], at: usize, c: u8) -> usize
-    requires { at + 3 ≤ length out.old }
-    ensures { Appends (between c) at out.old result out.new }
+fn put_between(out: &mut Output, c: u8)
+    requires { HasRoom 3 out.old }
+    ensures { Writes (between c) out.old out.new }
 {
-    out[at] = b',';
-    out[at + 1] = c;
-    out[at + 2] = b',';
-    at + 3
+    out.put_text(&[b',', c, b',']);
 }
 
 // Line number, letter and status.
-fn put_head(out: &mut [u8], at: usize, number: usize, letter: u8, status: u8) -> usize
-    requires { at + 13 ≤ length out.old }
-    ensures { Appends (head_text number letter status) at out.old result out.new }
+#[tactic(auto, using(digits::proofs::Laws::length_decimal))]
+fn put_head(out: &mut Output, number: usize, letter: u8, status: u8)
+    requires { HasRoom 13 out.old }
+    ensures { Writes (head_text number letter status) out.old out.new }
 {
-    let a = put_decimal(out, at, number);
-    let b = put_between(out, a, letter);
-    put_decimal(out, b, status as usize)
+    out.put_decimal(number);
+    put_between(out, letter);
+    out.put_decimal(status as usize);
 }
 
 // Whether a commit was decided, and the group.
-fn put_middle(out: &mut [u8], at: usize, decided: bool, group: u16) -> usize
-    requires { at + 7 ≤ length out.old }
-    ensures { Appends (middle_text decided group) at out.old result out.new }
+fn put_middle(out: &mut Output, decided: bool, group: u16)
+    requires { HasRoom 7 out.old }
+    ensures { Writes (middle_text decided group) out.old out.new }
 {
     let flag = if decided { b'1' } else { b'0' };
-    let a = put_between(out, at, flag);
-    put_group(out, a, group)
+    put_between(out, flag);
+    out.put_group(group);
 }
 
 // The stores, the bytes and the line feed.
-fn put_tail(out: &mut [u8], at: usize, stores: usize, bytes: &[u8]) -> usize
-    requires { at + 8 + 2 * length bytes.now ≤ length out.old }
-    ensures { Appends (tail_text stores bytes.now) at out.old result out.new }
+#[tactic(auto, using(digits::proofs::Laws::length_decimal, digits::proofs::Laws::length_bytes))]
+fn put_tail(out: &mut Output, stores: usize, bytes: &[u8])
+    requires { HasRoom (8 + 2 * length bytes.now) out.old }
+    ensures { Writes (tail_text stores bytes.now) out.old out.new }
 {
-    let a = put(out, at, b',');
-    let b = put_decimal(out, a, stores);
-    let c = put(out, b, b',');
-    let d = put_bytes(out, c, bytes);
-    put(out, d, b'\n')
+    out.put(b',');
+    out.put_decimal(stores);
+    out.put(b',');
+    out.put_bytes(bytes);
+    out.put(b'\n');
+}
+
+// What a row shows of an answer: of a refusal no and zeros.
+fn shown(answer: Result<Answer, Refusal>) -> Answer
+    ensures decided { result.decided ≡ (answer_says answer).decided }
+    ensures group { result.group ≡ (answer_says answer).group }
+    ensures stores { result.stores ≡ (answer_says answer).stores }
+{
+    answer.unwrap_or_default()
 }
 
 // A row: a whole line, of at most 160 characters.
+#[tactic(auto, using(crate::proofs::Laws::length_head, crate::proofs::Laws::length_middle))]
 fn put_row(
-    out: &mut [u8],
-    at: usize,
+    out: &mut Output,
     number: usize,
     letter: u8,
-    answer: Answer,
+    answer: Result<Answer, Refusal>,
     bytes: &[u8],
-) -> usize
-    requires { (at + 160 ≤ length out.old) × (length bytes.now ≤ 64) }
-    ensures appends { Appends (row_text number (record { letter = letter; answer = answer; bytes = bytes.now }))
-        at out.old result out.new }
-    ensures room { result ≤ at + 160 }
+)
+    requires { HasRoom 160 out.old × (length bytes.now ≤ 64) }
+    ensures writes { Writes
+        (row_text number (record { letter = letter; answer = answer_says answer; bytes = bytes.now }))
+        out.old out.new }
+    ensures room { out.new.end ≤ out.old.end + 160 }
 {
-    let a = put_head(out, at, number, letter, answer.status);
-    let b = put_middle(out, a, answer.decided, answer.group);
-    put_tail(out, b, answer.stores, bytes)
+    put_head(out, number, letter, status_of(answer));
+    let shown = shown(answer);
+    put_middle(out, shown.decided, shown.group);
+    put_tail(out, shown.stores, bytes);
 }
 
 // The rows of the line that has this number; the bytes that they count stand at the buffer's start.
-pub fn put_rows(out: &mut [u8], at: usize, number: usize, rows: Rows, buffer: &[u8]) -> usize
-    requires { (at + 320 ≤ length out.old) × (rows.first.count ≤ 64) × (64 ≤ length buffer.now) }
-    ensures appends { Appends (rows_text number (rows_meant rows buffer.now)) at
-        out.old result out.new }
-    ensures room { result ≤ at + 320 }
+pub fn put_rows(out: &mut Output, number: usize, rows: Rows, buffer: &[u8])
+    requires { HasRoom 320 out.old × (rows.first.count ≤ 64) × (64 ≤ length buffer.now) }
+    ensures writes { Writes (rows_text number (rows_meant rows buffer.now)) out.old out.new }
+    ensures room { out.new.end ≤ out.old.end + 320 }
 {
     let first = rows.first;
-    let count = first.count;
-    let end = put_row(
+    put_row(
         out,
-        at,
         number,
-        first.letter,
+        first.character(),
         first.answer,
-        &buffer[0..count],
+        &buffer[..first.count],
     );
-    let after = rows.after;
-    let Follows::PowerUp(answer) = after else {
-        return end;
+    let Some(answer) = rows.after else {
+        return;
     };
-    put_row(out, end, number, POWER_UP, answer, &buffer[0..0])
+    let letter = Letter::PowerUp;
+    put_row(out, number, letter.character(), answer, &[]);
 }

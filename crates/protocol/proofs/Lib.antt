@@ -23,3 +23,4 @@ pub mod Demand3
 pub mod Transactions
 pub mod Taken
 pub mod Port
+pub mod Numbers

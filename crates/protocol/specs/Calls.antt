@@ -14,8 +14,7 @@ use Rattle.protocol.specs.declared.Shape.{Shape}
 use Rattle.protocol.specs.declared.Requester.{Requester}
 use Rattle.protocol.specs.declared.Requester.TheVariants.{Board, Port}
 use Rattle.volatile.specs.declared.Record.{Record}
-use Rattle.protocol.specs.declared.Answer.{Answer}
-use Rattle.protocol.specs.declared.Reply.{Reply}
+use Rattle.protocol.specs.Answers.{Answer, Reply, refusal_answer}
 
 -- What a call asks for, with all arguments but image, record and budget: boards and cells by number, bytes; of an
 -- access who makes it, of a read's answer buffer its length, `room`. (Document 01 calls the papers that come later
@@ -227,7 +226,7 @@ pub record Outcome : Type 0 where
 
 -- a refusal: its number, zero and no for the rest; nothing changed
 abbrev pub refusal_of : ℕ → Record → Reply
-refusal_of n r = record { answer = record { status = n; decided = false; group = 0; stores = 0 }; next = r }
+refusal_of n r = record { answer = refusal_answer n; next = r }
 
 unfoldable pub refused : ℕ → List ℕ → Record → Outcome
 refused n image r = record { reply = refusal_of n r; image = image; bytes = [] }

@@ -1,3 +1,5 @@
+pub mod Refusals
+pub mod Answers
 pub mod Image
 pub mod Accesses
 pub mod Calls

@@ -8,18 +8,18 @@ use native.Mathlib.Omega.{arith}
 use lib.Dec.{ltb, leb}
 use lib.ListN.{length}
 use borrow.Author.Tests.{lt-ltb, le-ltb, ltb-true, leb-true, eq-eqb, ne_eqb}
+use Rattle.std.specs.Prelude.{Option, Some, None}
 use Rattle.boards.proofs.Basics.{and_true, false_and}
 use Rattle.text.specs.Events.{Event, taken}
 use Rattle.text.specs.Whole.{Line, Step, Goes, Ends, Program, continued, output_by, Run as Whole, most_lines, line_rows}
 use Rattle.text.specs.Whole.{line_text, next_run, line_step, rsmrun}
-use Rattle.digits.specs.Append.{Appends}
-use Rattle.digits.proofs.Laws.{appends_none}
+use Rattle.digits.specs.Append.{Appends, Writes}
+use Rattle.digits.specs.declared.Output.{Output}
+use Rattle.digits.proofs.Laws.{writes_none}
 use Rattle.page.specs.Saving.{decided_by}
 use Rattle.page.specs.Columns.{commit_line}
-use Rattle.page.specs.Page.{full_status, added, totals_after, decided_text, page_goes, page_step, rsmpage}
+use Rattle.page.specs.Page.{no_totals, full_status, added, totals_after, decided_text, page_goes, page_step, rsmpage}
 use Rattle.page.specs.declared.Saved.{Saved}
-use Rattle.page.specs.declared.Decided.{Decided}
-use Rattle.page.specs.declared.Decided.TheVariants.{Nothing, Commit}
 use Rattle.page.specs.declared.Totals.{Totals}
 use Rattle.page.proofs.Columns.{length_commit}
 use Rattle.page.proofs.Bounds.{decided_fits}
@@ -27,13 +27,13 @@ use Rattle.sheet.specs.Sums.{Small}
 use Rattle.text.specs.Turns.{Player}
 use Rattle.listing.specs.Listing.{order_step, rsmorder}
 use Rattle.runner.specs.OneLine.{run_of, EventPlayed}
-use Rattle.runner.specs.declared.Run.{Run}
 use Rattle.runner.specs.declared.Played.{Played}
 use Rattle.reports.specs.Reports.{State, RowsState, PageState, OrderState, lifted, report_step}
 use Rattle.reports.specs.Reports.{report_close, reporting}
 use Rattle.reports.specs.Reports.{EachItsOwn, goes}
 use Rattle.reports.specs.Tasks.{by_report, state_of, event_text, state_after, AmountsFit, DecidedPrinted}
-use Rattle.reports.specs.Tasks.{RowsPrinted, SteppedOn}
+use Rattle.reports.specs.Tasks.{SteppedOn, SmallReport, ToBeDecided, CanPrint, Printed, printed_text}
+use Rattle.reports.specs.Tasks.{next_report}
 use Rattle.reports.specs.declared.Report.{Report}
 use Rattle.reports.specs.declared.Report.TheVariants as report
 use Rattle.reports.specs.declared.Task.{Task}
@@ -118,40 +118,41 @@ ends_steps (OrderState r) l e = rw e
 
 -- ---- commits
 
+zeros : (a b c : ℕ) → a ≡ 0 → b ≡ 0 → c ≡ 0 → record { commits = a; blocks = b; bytes = c } ≡ no_totals
+unfolding no_totals
+zeros a b c d e f = cc
+
+pub default_totals : (t : Totals) → (t.commits ≡ 0) × ((t.blocks ≡ 0) × (t.bytes ≡ 0)) → t ≡ no_totals
+default_totals t h = zeros t.commits t.blocks t.bytes h.0 h.1.0 h.1.1
+
 pub decided_amounts : (p : Player) (e : Event) → AmountsFit (decided_by p e)
 decided_amounts p e = go (decided_by p e) refl
   where
-    go : (d : Decided) → decided_by p e ≡ d → AmountsFit d
-    go Nothing h = tt
-    go (Commit c) h = let f = decided_fits p e c h in (f.1, f.2)
+    go : (d : Option Saved) → decided_by p e ≡ d → AmountsFit d
+    go None h = tt
+    go (Some c) h = let f = decided_fits p e c h in (f.1, f.2)
 
-module _ (run : Run) (t : Totals) {d : Decided} (at : ℕ) (out : List ℕ) where
-  pub none_printed : d ≡ Nothing → at ≤ length out → Small t
-      → DecidedPrinted run t d at out
-      (record { task = record { run = run; report = report.Page t }; written = at }) out
+module _ (t : Totals) {d : Option Saved} (out : Output) where
+  pub none_printed : d ≡ None → out.end ≤ length out.buffer.now → Small t → DecidedPrinted t d t out out
   unfolding decided_text totals_after
   none_printed e l small =
-      rw e (record { written = appends_none out at l; task = refl; most = omega arith; small = small })
+      rw e (record { written = writes_none out l; totals = refl; most = omega arith; small = small })
 
-  module _ {c : Saved} (e : d ≡ Commit c) {totals : Totals} (same : totals ≡ added t c) (small : Small totals) where
-    abbrev task : Task
-    task = record { run = run; report = report.Page totals }
-
-    pub not_printed : full_status t ≢ 0 → at ≤ length out
-        → DecidedPrinted run t d at out (record { task = task; written = at }) out
+  module _ {c : Saved} (e : d ≡ Some c) {totals : Totals} (same : totals ≡ added t c) (small : Small totals) where
+    pub not_printed : full_status t ≢ 0 → out.end ≤ length out.buffer.now → DecidedPrinted t d totals out out
     unfolding decided_text totals_after
     not_printed full l =
         rw e
         (record {
-          written = rw (ne_eqb (full_status t) 0 full) (appends_none out at l);
-          task = rw same;
+          written = rw (ne_eqb (full_status t) 0 full) (writes_none out l);
+          totals = same;
           most = omega arith;
           small = subst Small same small;
         })
 
-    pub commit_printed : full_status t ≡ 0 → {r : ℕ} {x : List ℕ}
-        → Appends (commit_line totals.commits c) at out r x
-        → DecidedPrinted run t d at out (record { task = task; written = r }) x
+    pub commit_printed : full_status t ≡ 0 → {after : Output}
+        → Writes (commit_line totals.commits c) out after
+        → DecidedPrinted t d totals out after
     unfolding decided_text totals_after added
     commit_printed room m =
         let open_page = eq-eqb (full_status t) 0 room in
@@ -159,53 +160,54 @@ module _ (run : Run) (t : Totals) {d : Decided} (at : ℕ) (out : List ℕ) wher
         rw e
         (record {
           written = rw open_page (rw count at m);
-          task = rw same;
-          most = omega (arith, m.place, length_commit totals.commits c);
+          totals = same;
+          most = omega (arith, m.appends.place, length_commit totals.commits c);
           small = subst Small same small;
         })
 
 -- ---- a line looked at, played and printed
 
-module _ (w : Whole) (e : Event) {at : ℕ} {out area x buffer : List ℕ} {p : Played} {r : Stepped}
+-- a state that goes on: its report can be printed
+pub can_print : (report : Report) (w : Whole) (e : Event) (d : Option Saved) → SmallReport report
+    → goes (by_report report w) ≡ true → ToBeDecided report w.player e d → CanPrint report d
+can_print report.Rows w e d small going same = tt
+can_print (report.Page t) w e d small going same =
+    (small, going_commits t w going, rw same (decided_amounts w.player e))
+can_print report.Order w e d small going same = tt
+
+-- by what was decided before it and what was played: the text of an event, and the state after it
+module _ (w : Whole) (e : Event) (d : Option Saved) {area buffer : List ℕ} {p : Played}
     (played : EventPlayed w e p area buffer)
   where
-    pub rows_stepped : RowsPrinted p buffer at out r x → SteppedOn (RowsState w) e at out r area x
-    unfolding event_text state_after
-    rows_stepped printed =
-        record {
-          written = rw (played.rows, ap (λ (v : Whole). v.played) played.next) at printed.written;
-          next = rw printed.task (ap RowsState played.next);
-          most = printed.most;
-          fits = rw printed.task (record { image = played.fits; report = tt });
-        }
+    text_printed : (report : Report) → ToBeDecided report w.player e d
+        → printed_text report p d buffer ≡ event_text (by_report report w) e
+    unfolding event_text
+    text_printed report.Rows same = rw (played.rows, ap (λ (v : Whole). v.played) played.next)
+    text_printed (report.Page t) same = rw same
+    text_printed report.Order same = refl
 
-    pub page_stepped : {t : Totals} {d : Decided} → d ≡ decided_by w.player e
-        → DecidedPrinted p.run t d at out r x
-        → SteppedOn (PageState (record { run = w; totals = t })) e at out r area x
-    unfolding event_text state_after
-    page_stepped {t} same printed =
-        let d = decided_by w.player e in
-        let to_state : Whole → State = λ v. PageState (record { run = v; totals = totals_after t d }) in
-        record {
-          written = rw same at printed.written;
-          next = rw (printed.task, same) (ap to_state played.next);
-          most = printed.most;
-          fits = rw printed.task (record { image = played.fits; report = printed.small });
-        }
+    next_stepped : (report : Report) → ToBeDecided report w.player e d
+        → by_report (next_report report d) (run_of p.run area) ≡ state_after (by_report report w) e
+    unfolding state_after
+    next_stepped report.Rows same = ap RowsState played.next
+    next_stepped (report.Page t) same =
+        rw same
+        (ap (λ (v : Whole). PageState (record { run = v; totals = totals_after t (decided_by w.player e) }))
+        played.next)
+    next_stepped report.Order same = ap OrderState played.next
 
--- nothing is printed of a line before the order
-pub order_stepped : (w : Whole) (e : Event) {at : ℕ} {out area buffer : List ℕ} {p : Played}
-    → EventPlayed w e p area buffer → at ≤ length out
-    → SteppedOn (OrderState w) e at out
-    (record { task = record { run = p.run; report = report.Order }; written = at }) area out
-unfolding event_text state_after
-order_stepped w e {at} {out} played l =
-    record {
-      written = appends_none out at l;
-      next = ap OrderState played.next;
-      most = omega arith;
-      fits = record { image = played.fits; report = tt };
-    }
+    pub stepped : (report : Report) → ToBeDecided report w.player e d
+        → {next : Report} {before after : Output} → Printed report p d buffer next before after
+        → {out now : List ℕ} → Appends (printed_text report p d buffer) before.end out after.end now
+        → SteppedOn (by_report report w) e before.end out
+        (record { task = record { run = p.run; report = next }; written = after.end }) area now
+    stepped report same m written =
+        record {
+          written = rw (text_printed report same) at written;
+          next = rw m.next (next_stepped report same);
+          most = m.most;
+          fits = record { image = played.fits; report = m.small };
+        }
 
 -- ---- one line more
 

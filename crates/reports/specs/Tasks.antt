@@ -1,19 +1,18 @@
 -- The code's tasks, and what playing and printing a line promises.
-use Rattle.std.specs.Prelude.{ℕ, suc, ◌+◌, ◌≤◌, ◌≡◌, true, List, [], length}
+use Rattle.std.specs.Prelude.{ℕ, suc, ◌+◌, ◌≤◌, ◌≡◌, true, List, [], length, Option, Some, None}
 use Rattle.text.specs.Events.{Event}
 use Rattle.text.specs.Rows.{rows_text, rows_meant}
 use Rattle.text.specs.Turns.{Player, play}
 use Rattle.text.specs.Whole.{Run as Whole, run_after}
-use Rattle.digits.specs.Append.{Appends}
+use Rattle.digits.specs.Append.{Appends, Writes}
+use Rattle.digits.specs.declared.Output.{Output}
 use Rattle.page.specs.Saving.{decided_by}
 use Rattle.page.specs.Page.{totals_after, decided_text}
-use Rattle.page.specs.declared.Decided.{Decided}
-use Rattle.page.specs.declared.Decided.TheVariants.{Nothing, Commit}
+use Rattle.page.specs.declared.Saved.{Saved}
 use Rattle.page.specs.declared.Totals.{Totals}
 use Rattle.sheet.specs.Sums.{Small}
 use Rattle.turns.specs.Turned.{area_size}
 use Rattle.runner.specs.OneLine.{run_of}
-use Rattle.runner.specs.declared.Run.{Run}
 use Rattle.runner.specs.declared.Played.{Played}
 use Rattle.reports.specs.Reports.{State, RowsState, PageState, OrderState, goes}
 use Rattle.reports.specs.declared.Report.{Report}
@@ -75,27 +74,45 @@ pub record SteppedOn (v : State) (e : Event) (at : ℕ) (before : List ℕ) (r :
 -- ---- its parts
 
 -- before it is played: the commit that it will decide, if a page is printed
-abbrev pub ToBeDecided : Report → Player → Event → Decided → Type 0
+abbrev pub ToBeDecided : Report → Player → Event → Option Saved → Type 0
 ToBeDecided report.Rows p e d = Unit {0}
 ToBeDecided (report.Page t) p e d = d ≡ decided_by p e
 ToBeDecided report.Order p e d = Unit {0}
 
--- its rows are printed, under the number of lines that were played
-pub record RowsPrinted (p : Played) (buffer : List ℕ) (at : ℕ) (before : List ℕ) (r : Stepped) (after : List ℕ)
-    : Type 0 where
-  pub written : Appends (rows_text p.run.played (rows_meant p.rows buffer)) at before r.written after
-  pub task : r.task ≡ record { run = p.run; report = report.Rows }
-  pub most : r.written ≤ at + 320
-
 -- a decided commit has as many blocks and bytes as there can be at most
-abbrev pub AmountsFit : Decided → Type 0
-AmountsFit Nothing = Unit {0}
-AmountsFit (Commit c) = (c.blocks ≤ 1024) × (c.bytes ≤ 17408)
+abbrev pub AmountsFit : Option Saved → Type 0
+AmountsFit None = Unit {0}
+AmountsFit (Some c) = (c.blocks ≤ 1024) × (c.bytes ≤ 17408)
 
--- the commit that a line decided, if it did, is printed and counted
-pub record DecidedPrinted (run : Run) (t : Totals) (d : Decided) (at : ℕ) (before : List ℕ) (r : Stepped)
-    (after : List ℕ) : Type 0 where
-  pub written : Appends (decided_text t d) at before r.written after
-  pub task : r.task ≡ record { run = run; report = report.Page (totals_after t d) }
-  pub most : r.written ≤ at + 320
+-- the commit that a line decided, if it did, is printed and counted; r are the totals with it
+pub record DecidedPrinted (t : Totals) (d : Option Saved) (r : Totals) (before after : Output) : Type 0 where
+  pub written : Writes (decided_text t d) before after
+  pub totals : r ≡ totals_after t d
+  pub most : after.end ≤ before.end + 320
   pub small : Small (totals_after t d)
+
+-- what can be printed: of a page, totals of few commits with one that fits
+abbrev pub CanPrint : Report → Option Saved → Type 0
+CanPrint report.Rows d = Unit {0}
+CanPrint (report.Page t) d = Small t × (t.commits ≤ 9999) × AmountsFit d
+CanPrint report.Order d = Unit {0}
+
+-- what is printed of a line that was played: its rows under the number of lines that were played, the commit that it
+-- decided, or nothing
+abbrev pub printed_text : Report → Played → Option Saved → List ℕ → List ℕ
+printed_text report.Rows p d buffer = rows_text p.run.played (rows_meant p.rows buffer)
+printed_text (report.Page t) p d buffer = decided_text t d
+printed_text report.Order p d buffer = []
+
+-- and what is printed of the next
+abbrev pub next_report : Report → Option Saved → Report
+next_report report.Rows d = report.Rows
+next_report (report.Page t) d = report.Page (totals_after t d)
+next_report report.Order d = report.Order
+
+pub record Printed (report : Report) (p : Played) (d : Option Saved) (buffer : List ℕ) (r : Report)
+    (before after : Output) : Type 0 where
+  pub written : Writes (printed_text report p d buffer) before after
+  pub next : r ≡ next_report report d
+  pub most : after.end ≤ before.end + 320
+  pub small : SmallReport r

@@ -8,8 +8,8 @@ ghost use Rattle.reports.specs.Reports.{reporting};
 ghost use Rattle.reports.specs.Tasks.{state_of, Fits};
 ghost use Rattle.rest.specs.Rest.{LastStepped, Last};
 
-use pieces::Got;
 use reports::{Stepped, Task, close, step};
+use std::io;
 
 // At the input's end what is kept is a line, unless it is empty.
 fn last_step(rest: &[u8], area: &mut [u8], task: Task, out: &mut [u8]) -> Stepped
@@ -40,13 +40,20 @@ fn play_last(rest: &[u8], area: &mut [u8], task: Task, out: &mut [u8]) -> usize
 
 // How much output is left when no text comes any more: that of the last line and what is printed behind it, and none
 // after a read that failed.
-pub fn play_rest(got: Got, rest: &[u8], area: &mut [u8], task: Task, out: &mut [u8]) -> usize
+#[tactic(auto, unfolding(crate::specs::Rest::still_due))]
+pub fn play_rest(
+    got: io::Result<Option<usize>>,
+    rest: &[u8],
+    area: &mut [u8],
+    task: Task,
+    out: &mut [u8],
+) -> usize
     requires { (Over got rest.now) × Fits task × (35852 ≤ length area.old) × (400 ≤ length out.old) }
     ensures { Last got (state_of task area.old) rest.now result out.new }
 {
     match got {
-        Got::Text(_) => 0,
-        Got::End => play_last(rest, area, task, out),
-        Got::Failed => 0,
+        Ok(Some(_)) => 0,
+        Ok(None) => play_last(rest, area, task, out),
+        Err(_) => 0,
     }
 }

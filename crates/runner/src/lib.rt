@@ -7,7 +7,8 @@ ghost use Rattle.turns.specs.Turned.{Ready};
 ghost use Rattle.runner.specs.OneLine.{run_of, EventPlayed};
 
 use player::play;
-use text::{Parsed, Rows};
+use protocol::Refusal;
+use text::{Event, Rows};
 use turns::{Session, UNCUT};
 use volatile::Record;
 
@@ -44,7 +45,12 @@ impl Run {
 }
 
 // A line that was taken apart; its bytes stand at the buffer's start, and those of its rows do so afterwards.
-pub fn play_event(line: Parsed, area: &mut [u8], run: Run, buffer: &mut [u8]) -> Played
+pub fn play_event(
+    line: Result<Event, Refusal>,
+    area: &mut [u8],
+    run: Run,
+    buffer: &mut [u8],
+) -> Played
     requires { (Ready run.session area.old) × (run.played < 99999) × (counted line ≤ length buffer.old)
         × (64 ≤ length buffer.old) }
     ensures { EventPlayed (run_of run area.old) (meant line buffer.old) result

@@ -7,6 +7,10 @@ use mathlib.Core.Logic.{◌≢◌}
 use lib.Dec.{eqb, leb}
 use lib.ListN.{length}
 use borrow.Author.Tests.{eq-eqb, ne_eqb, le-leb, lt-leb}
+use Rattle.std.specs.Prelude.{Some, None, Ok, Err}
+use Rattle.protocol.specs.Refusals.{number_of}
+use Rattle.protocol.specs.declared.Refusal.{Refusal}
+use Rattle.protocol.proofs.Numbers.{refusal_not_zero}
 use Rattle.boards.proofs.Basics.{if_true, if_false, true_and, false_and, and_false}
 use Rattle.volatile.specs.Volatile.{commit_of, acknowledge}
 use Rattle.volatile.specs.declared.Record.{Record}
@@ -16,10 +20,9 @@ use Rattle.protocol.specs.declared.Shape.{Shape}
 use Rattle.costs.specs.Forecasts.{boards_of, tagged_blocks}
 use Rattle.text.specs.Events.{Make, room, meant}
 use Rattle.text.specs.Turns.{Player}
-use Rattle.text.specs.declared.Parsed.{Parsed}
-use Rattle.text.specs.declared.Parsed.TheVariants as parsed
+use Rattle.text.specs.declared.Event.{Event}
+use Rattle.text.specs.declared.Event.TheVariants as event
 use Rattle.page.specs.Saving.{saved, decided_by}
-use Rattle.page.specs.declared.Decided.TheVariants.{Nothing, Commit}
 use Rattle.page.proofs.Decisions.{says_decided, refused_undecided, read_undecided, write_undecided, fault_undecided}
 use Rattle.page.proofs.Decisions.{power_up_undecided, Gives, gives_decides}
 use Rattle.page.proofs.Bounds.{saved_fits}
@@ -37,51 +40,54 @@ few_bytes s m g fine e f = rw (e, f) (saved_fits s m g fine).1
 -- ---- when the last member acknowledges
 
 module _ (s : Shape) (m : Memory) (r : Record) (i k : ℕ) where
-  pub not_all : (commit_of r i).acknowledged ≢ (commit_of r i).members → Nothing ≡ if_all_acknowledged s m r i k
+  pub not_all : (commit_of r i).acknowledged ≢ (commit_of r i).members → None ≡ if_all_acknowledged s m r i k
   unfolding if_all_acknowledged
   not_all e = sym (if_false _ _ (false_and (leb (s.context + 3) k) (ne_eqb _ _ e)))
 
-  pub too_short : k < s.context + 3 → Nothing ≡ if_all_acknowledged s m r i k
+  pub too_short : k < s.context + 3 → None ≡ if_all_acknowledged s m r i k
   unfolding if_all_acknowledged
   too_short l =
       let c = commit_of r i in
       sym (if_false _ _ (and_false (eqb c.acknowledged c.members) (lt-leb (s.context + 3) k l)))
 
   pub all_of_them : (commit_of r i).acknowledged ≡ (commit_of r i).members → s.context + 3 ≤ k
-      → Commit (saved s m (commit_of r i).members) ≡ if_all_acknowledged s m r i k
+      → Some (saved s m (commit_of r i).members) ≡ if_all_acknowledged s m r i k
   unfolding if_all_acknowledged
   all_of_them e l = sym (if_true _ _ (true_and (eq-eqb _ _ e) (le-leb (s.context + 3) k l)))
 
 -- ---- the lines
 
--- the places in `Parsed` of the lines that are neither a start nor an acknowledgement
 module _ (image : List ℕ) (state : Record) (k : ℕ) where
   abbrev player : Player
   player = record { image = image; state = state; k = k }
 
   undecided : (request : Request) → says_decided image state request k ≡ false
-      → Nothing ≡ decided_by player (Make request)
+      → None ≡ decided_by player (Make request)
   unfolding decided_by
   undecided request e = sym (if_false _ _ e)
 
-  pub refused_nothing : (request : Request) {n : ℕ} → refusal_at image state request ≡ n → n ≢ 0
-      → Nothing ≡ decided_by player (Make request)
-  refused_nothing request e h = undecided request (refused_undecided image state request k (λ z. h (sym e ∙ z)))
+  pub refused_nothing : (request : Request) (why : Refusal) → refusal_at image state request ≡ number_of why
+      → None ≡ decided_by player (Make request)
+  refused_nothing request why e =
+      undecided request (refused_undecided image state request k (λ z. refusal_not_zero why (sym e ∙ z)))
 
   -- no other line decides
-  pub others_nothing : (line : Parsed) (buffer : List ℕ) → ((i n : ℕ) → line ≢ parsed.Start i n)
-      → ((i n : ℕ) → line ≢ parsed.Acknowledge i n)
-      → Nothing ≡ decided_by player (meant line buffer)
+  pub refusal_nothing : (why : Refusal) (buffer : List ℕ) → None ≡ decided_by player (meant (Err why) buffer)
   unfolding decided_by meant
-  others_nothing (parsed.Format shape) buffer s a = refl
-  others_nothing (parsed.Read i cell n) buffer s a = undecided _ (read_undecided image state _ cell n room k)
-  others_nothing (parsed.Write i cell n) buffer s a = undecided _ (write_undecided image state _ cell _ k)
-  others_nothing (parsed.Start i n) buffer s a = absurd (s i n refl)
-  others_nothing (parsed.Acknowledge i n) buffer s a = absurd (a i n refl)
-  others_nothing (parsed.Fault i) buffer s a = undecided _ (fault_undecided image state i k)
-  others_nothing parsed.PowerUp buffer s a = undecided _ (power_up_undecided image state k)
-  others_nothing (parsed.Allow n) buffer s a = refl
-  others_nothing (parsed.Refused n) buffer s a = refl
+  refusal_nothing why buffer = refl
+
+  pub others_nothing : (e : Event) (buffer : List ℕ) → ((i n : ℕ) → e ≢ event.Start i n)
+      → ((i n : ℕ) → e ≢ event.Acknowledge i n)
+      → None ≡ decided_by player (meant (Ok e) buffer)
+  unfolding decided_by meant
+  others_nothing (event.Format shape) buffer s a = refl
+  others_nothing (event.Read i cell n) buffer s a = undecided _ (read_undecided image state _ cell n room k)
+  others_nothing (event.Write i cell n) buffer s a = undecided _ (write_undecided image state _ cell _ k)
+  others_nothing (event.Start i n) buffer s a = absurd (s i n refl)
+  others_nothing (event.Acknowledge i n) buffer s a = absurd (a i n refl)
+  others_nothing (event.Fault i) buffer s a = undecided _ (fault_undecided image state i k)
+  others_nothing event.PowerUp buffer s a = undecided _ (power_up_undecided image state k)
+  others_nothing (event.Allow n) buffer s a = refl
 
   pub acknowledged_decides : {request : Request} {before r : Record} {i : ℕ} {context : List ℕ} {s : Shape}
       → Gives image state request before i context → r ≡ acknowledge before i → shape_of image ≡ s
@@ -89,5 +95,5 @@ module _ (image : List ℕ) (state : Record) (k : ℕ) where
   unfolding decided_by if_all_acknowledged acknowledging
   acknowledged_decides {request} {before} {i = i} given same shape =
       rw (same, ← shape)
-      (ap₂ (λ (b : Bool) (g : ℕ). cond b (Commit (saved (shape_of image) (view (shape_of image) image) g)) Nothing)
+      (ap₂ (λ (b : Bool) (g : ℕ). cond b (Some (saved (shape_of image) (view (shape_of image) image) g)) None)
       (sym (gives_decides image state given k)) (ap (λ p. p.group) (sym given.planned)))

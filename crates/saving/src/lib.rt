@@ -9,12 +9,11 @@ ghost use Rattle.page.specs.Saving.{saved, decided_by};
 ghost use Rattle.saving.specs.Acknowledged.{if_all_acknowledged};
 
 use commit::{acknowledge_entry, start_entry};
-use entry::Entry;
 use forecast::{member_count, tagged_count};
 use groups::commit_closure;
-use page::{Decided, Saved};
-use protocol::Shape;
-use text::Parsed;
+use page::Saved;
+use protocol::{Refusal, Shape};
+use text::Event;
 use volatile::Record;
 
 // What a commit of the members g saves.
@@ -33,30 +32,29 @@ fn saved(image: &[u8], s: Shape, g: u16) -> Saved
 
 // Board i has acknowledged, which gave the record r: its commit is decided if all members have, and the allowance lasts
 // to the deciding store, the third after the context.
-fn if_all_acknowledged(image: &[u8], s: Shape, r: Record, i: u8, k: usize) -> Decided
+fn if_all_acknowledged(image: &[u8], s: Shape, r: Record, i: u8, k: usize) -> Option<Saved>
     requires { (allowed s ≡ true) × (length image.now ≡ total s) }
     ensures { result ≡ if_all_acknowledged s (view s image.now) r i k }
 {
     let open = r.commit_of(i);
     let g = open.members;
     if open.acknowledged != g {
-        return Decided::Nothing;
+        return None;
     }
     if k < s.context + 3 {
-        return Decided::Nothing;
+        return None;
     }
     let amounts = saved(image, s, g);
-    Decided::Commit(amounts)
+    Some(amounts)
 }
 
 // A start: refused, it decides nothing.
-fn by_start(image: &[u8], state: Record, board: usize, context: &[u8], k: usize) -> Decided
+fn by_start(image: &[u8], state: Record, board: usize, context: &[u8], k: usize) -> Option<Saved>
     ensures { result ≡ decided_by (record { image = image.entry.now; state = state; k = k })
         (Make (Start board context.now)) }
 {
-    let entry = start_entry(image, state, board, context);
-    let Entry::Taken(s) = entry else {
-        return Decided::Nothing;
+    let Ok(s) = start_entry(image, state, board, context) else {
+        return None;
     };
     let i = board as u8;
     let rows = state.rows;
@@ -72,13 +70,12 @@ fn by_acknowledgement(
     board: usize,
     context: &[u8],
     k: usize,
-) -> Decided
+) -> Option<Saved>
     ensures { result ≡ decided_by (record { image = image.entry.now; state = state; k = k })
         (Make (Acknowledge board context.now)) }
 {
-    let entry = acknowledge_entry(image, state, board, context);
-    let Entry::Taken(s) = entry else {
-        return Decided::Nothing;
+    let Ok(s) = acknowledge_entry(image, state, board, context) else {
+        return None;
     };
     let i = board as u8;
     let next = state.acknowledge(i);
@@ -86,16 +83,25 @@ fn by_acknowledgement(
 }
 
 // A line that was taken apart; its bytes stand at the start of the buffer. Only these two decide.
-pub fn decided_by(image: &[u8], state: Record, k: usize, line: Parsed, buffer: &[u8]) -> Decided
+pub fn decided_by(
+    image: &[u8],
+    state: Record,
+    k: usize,
+    line: Result<Event, Refusal>,
+    buffer: &[u8],
+) -> Option<Saved>
     requires { counted line ≤ length buffer.now }
     ensures { result ≡ decided_by (record { image = image.entry.now; state = state; k = k })
         (meant line buffer.now) }
 {
-    match line {
-        Parsed::Start { board, count } => by_start(image, state, board, &buffer[0..count], k),
-        Parsed::Acknowledge { board, count } => {
+    let Ok(event) = line else {
+        return None;
+    };
+    match event {
+        Event::Start { board, count } => by_start(image, state, board, &buffer[0..count], k),
+        Event::Acknowledge { board, count } => {
             by_acknowledgement(image, state, board, &buffer[0..count], k)
         }
-        _ => Decided::Nothing,
+        _ => None,
     }
 }

@@ -1,11 +1,16 @@
--- Columns by their last character, and a text by one character more.
+-- Columns by their last character; what a commit is answered.
 use Prim.Native.Nat.{ℕ, zero, suc, ◌+◌, ◌-◌, ◌/◌, ◌%◌, ◌≤◌}
-use mathlib.Core.Path.{◌≡◌}
-use mathlib.Core.Bool.{cond}
+use mathlib.Core.Path.{◌≡◌, refl, sym}
+use mathlib.Core.Bool.{true, false, cond}
 use mathlib.Core.List.{[], ◌∷◌, ◌++◌}
 use native.Mathlib.Omega.{arith}
 use lib.Dec.{eqb}
+use Rattle.std.specs.Prelude.{Result, Ok, Err, is_err}
+use Rattle.std.proofs.lemmas.Bool.{false≢true}
+use Rattle.protocol.proofs.Numbers.{refusal_not_zero}
+use Rattle.protocol.specs.declared.Refusal.{Refusal}
 use Rattle.page.specs.Columns.{blank, leading, padded}
+use Rattle.sheet.specs.Sums.{status_of}
 
 before : (w : ℕ) → suc w - 1 ≡ w
 before w = omega arith
@@ -19,3 +24,13 @@ pub padded_last : (w n : ℕ) → 1 ≤ w → padded w n ≡ leading (w - 1) (n 
 unfolding padded
 padded_last zero n h = absurd (omega arith)
 padded_last (suc w) n h = rw (before w)
+
+-- ---- what a commit is answered: 0, or the number of a refusal
+
+pub status_zero : {A : Type 0} (r : Result A Refusal) → is_err r ≡ false → status_of r ≡ 0
+status_zero (Ok a) e = refl
+status_zero (Err refusal) e = absurd (false≢true (sym e))
+
+pub status_some : {A : Type 0} (r : Result A Refusal) → is_err r ≡ true → 1 ≤ status_of r
+status_some (Ok a) e = absurd (false≢true e)
+status_some (Err refusal) e = omega (arith, refusal_not_zero refusal)

@@ -1,60 +1,30 @@
 #![tactic(auto)]
-// The lines of a page, written into a lent buffer from a place on, and its totals.
-ghost use Rattle.std.specs.Prelude.{◌≡◌, cond, ◌+◌, ◌%◌, ◌≤◌, eqb, length};
-ghost use Rattle.digits.specs.Append.{Appends};
+// The lines of a page, written into a lent buffer, and its totals.
+ghost use Rattle.std.specs.Prelude.{◌≡◌, cond, ◌+◌, ◌%◌, ◌≤◌, eqb};
+ghost use Rattle.digits.specs.Append.{HasRoom, Writes};
 ghost use Rattle.page.specs.Columns.{blank, leading, padded, amounts_text, commit_line, total_line};
-ghost use Rattle.page.specs.Page.{no_totals, full_status, added};
-ghost use Rattle.sheet.specs.Sums.{Small};
+ghost use Rattle.page.specs.Page.{full_status, added};
+ghost use Rattle.sheet.specs.Sums.{Small, status_of};
 
-use digits::{put, put_group};
+use digits::Output;
 use page::{Saved, Totals};
+use protocol::Refusal;
 
-// The commits that are printed at most, and the answer to a further one.
+// The commits that are printed at most.
 pub const MOST_COMMITS: usize = 9999;
 
-pub const FULL: u8 = 18;
-
-// The totals with a commit, and 0, or 18 where it is not to be printed and was not summed.
-#[derive(Clone, Copy)]
-pub struct Added {
-    pub status: u8,
-    pub totals: Totals,
-}
-
-// Before the first commit.
-pub fn no_totals() -> Totals
-    ensures { (result ≡ no_totals) × Small result }
-{
-    Totals {
-        commits: 0,
-        blocks: 0,
-        bytes: 0,
-    }
-}
-
 // A decided commit is counted and, if it is to be printed, summed.
-pub fn add(t: Totals, c: Saved) -> Added
-    requires { Small t × (t.commits ≤ 9999) × (c.blocks ≤ 1024) × (c.bytes ≤ 17408) }
-    ensures { (result.status ≡ full_status t) × (result.totals ≡ added t c) × Small result.totals }
+pub fn add(totals: &mut Totals, c: Saved) -> Result<(), Refusal>
+    requires { Small totals.old × (totals.old.commits ≤ 9999) × (c.blocks ≤ 1024) × (c.bytes ≤ 17408) }
+    ensures { (status_of result ≡ full_status totals.old) × (totals.new ≡ added totals.old c) × Small totals.new }
 {
-    let commits = t.commits + 1;
-    if t.commits >= MOST_COMMITS {
-        let totals = Totals {
-            commits,
-            blocks: t.blocks,
-            bytes: t.bytes,
-        };
-        return Added {
-            status: FULL,
-            totals,
-        };
+    totals.commits += 1;
+    if totals.commits > MOST_COMMITS {
+        return Err(Refusal::PageFull);
     }
-    let totals = Totals {
-        commits,
-        blocks: t.blocks + c.blocks,
-        bytes: t.bytes + c.bytes,
-    };
-    Added { status: 0, totals }
+    totals.blocks += c.blocks;
+    totals.bytes += c.bytes;
+    Ok(())
 }
 
 // The last digit of a number; a blank for 0.
@@ -69,69 +39,59 @@ fn digit_or_blank(n: usize) -> u8
 }
 
 // The digits of a number, right-aligned with blanks in w characters; of 0 none.
-fn put_leading(out: &mut [u8], at: usize, w: usize, n: usize) -> usize
-    requires { at + w ≤ length out.old }
-    ensures { Appends (leading w n) at out.old result out.new }
+#[tactic(auto, using(page::proofs::Columns::length_leading))]
+fn put_leading(out: &mut Output, w: usize, n: usize)
+    requires { HasRoom w out.old }
+    ensures { Writes (leading w n) out.old out.new }
 {
     if w == 0 {
-        return at;
+        return;
     }
-    let next = put_leading(out, at, w - 1, n / 10);
-    let c = digit_or_blank(n);
-    put(out, next, c)
+    put_leading(out, w - 1, n / 10);
+    out.put(digit_or_blank(n));
 }
 
 // Likewise, and of 0 one.
-fn put_padded(out: &mut [u8], at: usize, w: usize, n: usize) -> usize
-    requires { (1 ≤ w) × (at + w ≤ length out.old) }
-    ensures { Appends (padded w n) at out.old result out.new }
+#[tactic(auto, using(page::proofs::Columns::length_leading))]
+fn put_padded(out: &mut Output, w: usize, n: usize)
+    requires { (1 ≤ w) × HasRoom w out.old }
+    ensures { Writes (padded w n) out.old out.new }
 {
-    let next = put_leading(out, at, w - 1, n / 10);
+    put_leading(out, w - 1, n / 10);
     let digit = (n % 10) as u8;
-    put(out, next, b'0' + digit)
+    out.put(b'0' + digit);
 }
 
 // Blocks and bytes in their columns, a blank before each; the line feed.
-fn put_amounts(out: &mut [u8], at: usize, blocks: usize, bytes: usize) -> usize
-    requires { at + 21 ≤ length out.old }
-    ensures { Appends (amounts_text blocks bytes) at out.old result out.new }
+#[tactic(auto, using(page::proofs::Columns::length_padded))]
+fn put_amounts(out: &mut Output, blocks: usize, bytes: usize)
+    requires { HasRoom 21 out.old }
+    ensures { Writes (amounts_text blocks bytes) out.old out.new }
 {
-    let a = put(out, at, b' ');
-    let b = put_padded(out, a, 8, blocks);
-    let c = put(out, b, b' ');
-    let d = put_padded(out, c, 10, bytes);
-    put(out, d, b'\n')
+    out.put(b' ');
+    put_padded(out, 8, blocks);
+    out.put(b' ');
+    put_padded(out, 10, bytes);
+    out.put(b'\n');
 }
 
 // The line of the commit that has this count.
-pub fn put_commit(out: &mut [u8], at: usize, count: usize, c: Saved) -> usize
-    requires { at + 32 ≤ length out.old }
-    ensures { Appends (commit_line count c) at out.old result out.new }
+#[tactic(auto, using(page::proofs::Columns::length_padded, digits::proofs::Laws::length_group))]
+pub fn put_commit(out: &mut Output, count: usize, c: Saved)
+    requires { HasRoom 32 out.old }
+    ensures { Writes (commit_line count c) out.old out.new }
 {
-    let a = put_padded(out, at, 6, count);
-    let b = put(out, a, b' ');
-    let d = put_group(out, b, c.members);
-    put_amounts(out, d, c.blocks, c.bytes)
-}
-
-// A text as it is.
-fn put_text(out: &mut [u8], at: usize, text: &[u8]) -> usize
-    requires { at + length text.now ≤ length out.old }
-    ensures { Appends text.now at out.old result out.new }
-{
-    let mut next = at;
-    for i in 0..text.len() {
-        let c = text[i];
-        next = put(out, next, c);
-    }
-    next
+    put_padded(out, 6, count);
+    out.put(b' ');
+    out.put_group(c.members);
+    put_amounts(out, c.blocks, c.bytes);
 }
 
 // The last line: TOTAL and a blank in the count's place, four hyphens for members, the sums.
-pub fn put_total(out: &mut [u8], at: usize, t: Totals) -> usize
-    requires { at + 32 ≤ length out.old }
-    ensures { Appends (total_line t.blocks t.bytes) at out.old result out.new }
+pub fn put_total(out: &mut Output, t: Totals)
+    requires { HasRoom 32 out.old }
+    ensures { Writes (total_line t.blocks t.bytes) out.old out.new }
 {
-    let a = put_text(out, at, b"TOTAL  ----");
-    put_amounts(out, a, t.blocks, t.bytes)
+    out.put_text(b"TOTAL  ----");
+    put_amounts(out, t.blocks, t.bytes);
 }

@@ -3,7 +3,6 @@ use Prim.Native.Nat.{ℕ, ◌-◌, ◌≤◌}
 use mathlib.Core.Path.{◌≡◌, refl, sym, ◌∙◌, ap, ap₂}
 use mathlib.Core.Bool.{Bool, true, false}
 use mathlib.Core.List.{List, map}
-use mathlib.Core.Logic.{◌≢◌}
 use lib.ListN.{take}
 use native.Mathlib.Omega.{arith}
 use Rattle.boards.specs.Lists.{any_of}
@@ -14,7 +13,11 @@ use Rattle.protocol.specs.Calls.{carried_out}
 use Rattle.protocol.proofs.Outcomes.{taken, turned_down}
 use Rattle.protocol.specs.declared.Shape.{Shape}
 use Rattle.volatile.specs.declared.Record.{Record}
-use Rattle.protocol.specs.declared.Reply.{Reply}
+use Rattle.protocol.specs.Answers.{Reply, reply_says}
+use Rattle.protocol.specs.declared.Reply.{Reply as Returned}
+use Rattle.protocol.specs.Refusals.{number_of}
+use Rattle.protocol.specs.declared.Refusal.{Refusal}
+use Rattle.protocol.proofs.Numbers.{refusal_not_zero}
 use Rattle.store.specs.Budget.{Makes, start, spent}
 use Rattle.store.specs.declared.Budget.{Budget}
 use Rattle.store.proofs.Laws.{makes_begun, makes_count, makes_refused}
@@ -52,32 +55,32 @@ unfolding spent
 left_most e m = rw (m.budget, e) (omega arith)
 
 -- a call that is taken
-pub performed : {s : Shape} {image after : List ℕ} (state : Record) (request : Request) {k : ℕ} {reply : Reply}
+pub performed : {s : Shape} {image after : List ℕ} (state : Record) (request : Request) {k : ℕ} {reply : Returned}
     → shape_of image ≡ s → refusal_at image state request ≡ 0 →
     let o = carried_out s (plan s (view s image) state request) k image in
-    reply ≡ o.reply → after ≡ o.image → Performed request k image state reply after
+    reply_says reply ≡ o.reply → after ≡ o.image → Performed request k image state reply after
 performed {image = image} state request {k} e n g h =
     let o = taken image e state request (rw (← e) n) k in
     record { reply = g ∙ sym (ap (λ x. x.reply) o); image = h ∙ sym (ap (λ x. x.image) o) }
 
 -- the same, of which the stores of its plan were made
 pub ended : {s : Shape} {image after : List ℕ} (state : Record) (request : Request) {k : ℕ} {left : Budget}
-    {decided : Bool} {b : Budget} {group : ℕ} {next : Record} {reply : Reply} → shape_of image ≡ s
+    {decided : Bool} {b : Budget} {group : ℕ} {next : Record} {reply : Returned} → shape_of image ≡ s
     → refusal_at image state request ≡ 0 →
     let p = plan s (view s image) state request in
     b ≡ start k → Makes (map (raw s) p.stores) b image left after
     → decided ≡ any_of decides (take k (map (raw s) p.stores)) → group ≡ p.group → next ≡ p.next
-    → reply ≡ reply_of k left decided group next → Performed request k image state reply after
+    → reply_says reply ≡ reply_of k left decided group next → Performed request k image state reply after
 ended {s} {image} state request {k} {left} {decided} e n new m d f g h =
     let p = plan s (view s image) state request in
     let both = made_outcome p.group p.next p.bytes decided (makes_begun new m) d in
     performed state request e n (h ∙ ap₂ (reply_of k left decided) f g ∙ both.0) both.1
 
 -- a call that is refused
-pub turned : {image : List ℕ} (state : Record) (request : Request) {k n : ℕ} {next : Record} {reply : Reply}
-    → refusal_at image state request ≡ n → n ≢ 0 → next ≡ record_refused state request → reply ≡ refusal_of n next
-    → Performed request k image state reply image
+pub turned : {image : List ℕ} (state : Record) (request : Request) {k : ℕ} (why : Refusal) {next : Record}
+    {reply : Returned} → refusal_at image state request ≡ number_of why → next ≡ record_refused state request
+    → reply_says reply ≡ refusal_of (number_of why) next → Performed request k image state reply image
 unfolding refused
-turned {image} state request {k} f h e g =
-    let o = turned_down image refl state request (λ z. h (sym f ∙ z)) k in
+turned {image} state request {k} why f e g =
+    let o = turned_down image refl state request (λ z. refusal_not_zero why (sym f ∙ z)) k in
     record { reply = g ∙ ap₂ refusal_of (sym f) e ∙ sym (ap (λ x. x.reply) o); image = sym (ap (λ x. x.image) o) }

@@ -79,9 +79,8 @@ pub fn put_all(image: &mut [u8], at: usize, bytes: &[u8], k: Budget) -> Budget
     ensures { Makes (put_stores at bytes.now) k image.old result image.new }
 {
     let mut b = k;
-    for x in 0..bytes.len() {
-        let byte = bytes[x];
-        b = store(image, at + x, byte, b);
+    for (x, byte) in bytes.iter().enumerate() {
+        b = store(image, at + x, *byte, b);
     }
     b
 }

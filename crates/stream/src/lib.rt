@@ -7,92 +7,74 @@ ghost use Rattle.reports.specs.Tasks.{Fits};
 ghost use Rattle.stream.specs.Texts.{Reads, Next};
 
 use feeder::feed;
-use pieces::{Got, Stop, meaning_of};
+use pieces::{Stop, meaning_of};
 use reports::Task;
 use rest::play_rest;
 use std::io;
-use std::io::{ErrorKind, Read, Write};
+use std::io::{Read, Write};
 
-// How playing ended: all was played and written, or a read or a write failed, with this error.
+// Why playing ended early: a read or a write failed, with this error.
 #[derive(Clone, Copy)]
-pub enum Ended {
-    Played,
-    InputFailed(io::Error),
-    OutputFailed(io::Error),
+pub enum Failure {
+    Input(io::Error),
+    Output(io::Error),
 }
 
-// Reads at most `size` characters behind those that are held; a read that fails leaves its error in `error`.
+// Reads at most `size` characters behind those that are held.
 fn read_behind<R: Read>(
     from: &mut R,
     size: usize,
     input: &mut [u8],
     held: usize,
-    error: &mut io::Error,
-) -> Got
+) -> io::Result<Option<usize>>
     requires { held + size ≤ length input.old }
     ensures { Reads result held input.old input.new }
 {
     let end = held + size;
-    match from.read(&mut input[held..end]) {
-        Ok(n) => meaning_of(false, false, held, held + n),
-        Err(e) => {
-            *error = e;
-            let interrupted = e.kind() == ErrorKind::Interrupted;
-            meaning_of(true, interrupted, held, held)
-        }
-    }
+    let read = from.read(&mut input[held..end]);
+    meaning_of(read.map(|n| held + n), held)
 }
 
-// The text for the next turn: what is held where more of it is to be played, else what is read behind it; a read that
-// fails leaves its error in `error`.
+// Where the text for the next turn ends, or none at the input's end. The text is what is held where more of it is to be
+// played, else what is read behind it.
 pub fn next_text<R: Read>(
     from: &mut R,
     size: usize,
     input: &mut [u8],
     held: usize,
     stop: Stop,
-    error: &mut io::Error,
-) -> Got
+) -> io::Result<Option<usize>>
     requires { (161 + size ≤ length input.old) × (Kept stop held input.old) }
     ensures { Next result held input.new }
 {
     match stop {
-        Stop::Unfinished => read_behind(from, size, input, held, error),
-        Stop::Full => Got::Text(held),
-        Stop::Limit => Got::End,
-    }
-}
-
-fn ending(got: Got, error: io::Error) -> Ended {
-    match got {
-        Got::Failed => Ended::InputFailed(error),
-        _ => Ended::Played,
+        Stop::Unfinished => read_behind(from, size, input, held),
+        Stop::Full => Ok(Some(held)),
+        Stop::Limit => Ok(None),
     }
 }
 
 // No text comes any more: what is left is played and written.
 fn close<W: Write>(
-    got: Got,
-    error: io::Error,
+    got: io::Result<Option<usize>>,
     to: &mut W,
     rest: &[u8],
     area: &mut [u8],
     task: Task,
     out: &mut [u8],
-) -> Ended
+) -> Result<(), Failure>
     requires { (Over got rest.now) × Fits task × (35852 ≤ length area.old) × (400 ≤ length out.old) }
 {
     let n = play_rest(got, rest, area, task, out);
-    if let Err(e) = to.write_all(&out[0..n]) {
-        return Ended::OutputFailed(e);
-    }
-    ending(got, error)
+    to.write_all(&out[..n]).map_err(Failure::Output)?;
+    got.map_err(Failure::Input)?;
+    Ok(())
 }
 
 // Plays the lines that are read, at most `size` characters at a time, and writes what the task prints of them, to the
 // input's end or until no next line is played. `size` is at least 1, since a read of no characters would look like the
-// input's end. A proved loop has to end, and nothing says that an input does: the loop counts its turns down from a
-// number that no run uses up.
+// input's end. A proved loop has to end, and nothing says that an input does: the loop has a number of turns that no
+// run uses up.
 pub fn play<R: Read, W: Write>(
     from: &mut R,
     to: &mut W,
@@ -101,32 +83,26 @@ pub fn play<R: Read, W: Write>(
     input: &mut [u8],
     area: &mut [u8],
     out: &mut [u8],
-) -> Ended
+) -> Result<(), Failure>
     requires { (1 ≤ size) × Fits first × (161 + size ≤ length input.old) × (35852 ≤ length area.old)
         × (400 ≤ length out.old) }
 {
     let mut task = first;
     let mut held = 0;
     let mut stop = Stop::Unfinished;
-    // Stands for no error: it is told only where a read failed, and that read leaves its own.
-    let mut error = io::Error::from_raw_os_error(0);
-    let mut turns = u64::MAX;
-    while turns > 0 {
-        let got = next_text(from, size, input, held, stop, &mut error);
-        let Got::Text(end) = got else {
-            return close(got, error, to, &input[0..held], area, task, out);
+    for _ in 0..u64::MAX {
+        let got = next_text(from, size, input, held, stop);
+        let Ok(Some(end)) = got else {
+            return close(got, to, &input[..held], area, task, out);
         };
         let fed = feed(input, end, area, task, out);
-        let n = fed.written;
-        if let Err(e) = to.write_all(&out[0..n]) {
-            return Ended::OutputFailed(e);
-        }
-        task = fed.task;
+        to.write_all(&out[..fed.progress.written])
+            .map_err(Failure::Output)?;
+        task = fed.progress.task;
+        stop = fed.progress.stop;
         held = fed.held;
-        stop = fed.stop;
-        turns -= 1;
     }
-    Ended::Played
+    Ok(())
 }
 
 // Writes a line: what failed, as the caller names it, a colon and the system's text for the error. An error prints its
@@ -144,11 +120,10 @@ fn fail<W: Write>(to: &mut W, what: &[u8], error: io::Error) {
 }
 
 // An error of the system is told in one line on standard error.
-fn tell<W: Write>(ended: Ended, to: &mut W, input: &[u8], output: &[u8]) {
-    match ended {
-        Ended::Played => {}
-        Ended::InputFailed(error) => fail(to, input, error),
-        Ended::OutputFailed(error) => fail(to, output, error),
+fn tell<W: Write>(failure: Failure, to: &mut W, input: &[u8], output: &[u8]) {
+    match failure {
+        Failure::Input(error) => fail(to, input, error),
+        Failure::Output(error) => fail(to, output, error),
     }
 }
 
@@ -168,6 +143,7 @@ pub fn run<R: Read, W: Write, E: Write>(
     let mut area = [0u8; 35852];
     let mut text = [0u8; 4257];
     let mut out = [0u8; 16384];
-    let ended = play(from, to, 4096, first, &mut text, &mut area, &mut out);
-    tell(ended, errors, input, output);
+    if let Err(failure) = play(from, to, 4096, first, &mut text, &mut area, &mut out) {
+        tell(failure, errors, input, output);
+    }
 }

@@ -1,15 +1,17 @@
 -- A line taken apart (document 01, "Event lines and `rsmrun`").
-use Rattle.std.specs.Prelude.{ℕ, cond, List, eqb, leb, length, take}
+use Rattle.std.specs.Prelude.{ℕ, cond, List, eqb, leb, length, take, Option, None, Some, Result, Ok, Err}
 use Rattle.protocol.specs.Calls.{Request, Read, Write, Start, Acknowledge, Fault, PowerUp}
+use Rattle.protocol.specs.Refusals.{number_of as refusal_number}
+use Rattle.protocol.specs.declared.Refusal.{Refusal}
 use Rattle.protocol.specs.declared.Shape.{Shape}
 use Rattle.protocol.specs.declared.Requester.TheVariants.{Board}
-use Rattle.text.specs.Fields.{field, commas, Number, Value, Invalid, number_of, pairs, decoded}
-use Rattle.text.specs.Letters.{format_letter, read_letter, write_letter, start_letter, acknowledge_letter}
-use Rattle.text.specs.Letters.{fault_letter, power_up_letter, letter_of}
+use Rattle.text.specs.Fields.{field, commas, number_of, pairs, decoded}
+use Rattle.text.specs.Letters.{letter_of}
+use Rattle.text.specs.declared.Listing.{Listing}
 use Rattle.text.specs.declared.Letter.{Letter}
-use Rattle.text.specs.declared.Letter.TheVariants.{Listed, Unlisted}
-use Rattle.text.specs.declared.Parsed.{Parsed}
-use Rattle.text.specs.declared.Parsed.TheVariants as parsed
+use Rattle.text.specs.declared.Letter.TheVariants as letter
+use Rattle.text.specs.declared.Event.{Event as Parsed}
+use Rattle.text.specs.declared.Event.TheVariants as parsed
 
 -- What a line asks for: a format, a request, the allowance of the next line; or it is refused by a number.
 pub data Event : Type 0 where
@@ -23,9 +25,9 @@ abbrev pub unreadable : Event
 unreadable = Refused 6
 
 -- what follows if a field is a number; if it is pairs of hexadecimal digits
-unfoldable pub with_number : Number → (ℕ → Event) → Event
-with_number (Value n) f = f n
-with_number Invalid f = unreadable
+unfoldable pub with_number : Option ℕ → (ℕ → Event) → Event
+with_number (Some n) f = f n
+with_number None f = unreadable
 
 unfoldable pub with_bytes : List ℕ → (List ℕ → Event) → Event
 with_bytes s f = cond (pairs s) (f (decoded s)) unreadable
@@ -64,46 +66,46 @@ fault_of s = number_at 1 s (λ i. Make (Fault i))
 unfoldable pub allow_of : List ℕ → Event
 allow_of s = number_at 1 s (λ k. Allow k)
 
--- the letter chooses; of those in the table only Z is left
-unfoldable pub by_letter : ℕ → List ℕ → Event
-by_letter c s =
-    cond (eqb c format_letter) (format_of s)
-    (cond (eqb c read_letter) (read_of s)
-    (cond (eqb c write_letter) (write_of s)
-    (cond (eqb c start_letter) (start_of s)
-    (cond (eqb c acknowledge_letter) (acknowledge_of s)
-    (cond (eqb c fault_letter) (fault_of s)
-    (cond (eqb c power_up_letter) (Make PowerUp) (allow_of s)))))))
+-- the letter chooses
+unfoldable pub by_letter : Letter → List ℕ → Event
+by_letter letter.Format s = format_of s
+by_letter letter.Read s = read_of s
+by_letter letter.Write s = write_of s
+by_letter letter.Start s = start_of s
+by_letter letter.Acknowledge s = acknowledge_of s
+by_letter letter.Fault s = fault_of s
+by_letter letter.PowerUp s = Make PowerUp
+by_letter letter.Allow s = allow_of s
 
 -- a line whose first field was read as a letter has that letter's commas
-unfoldable pub with_letter : Letter → List ℕ → Event
-with_letter (Listed c n) s = let event = by_letter c s in cond (eqb (commas s) n) event unreadable
-with_letter Unlisted s = unreadable
+unfoldable pub with_letter : Option Listing → List ℕ → Event
+with_letter (Some e) s = let event = by_letter e.letter s in cond (eqb (commas s) e.commas) event unreadable
+with_letter None s = unreadable
 
 -- a line has at most 160 characters
 unfoldable pub taken : List ℕ → Event
 taken s = let event = with_letter (letter_of (field 0 s)) s in cond (leb (length s) 160) event unreadable
 
 -- what the code's answer means, with the bytes in its buffer
-unfoldable pub meant : Parsed → List ℕ → Event
-meant (parsed.Format s) b = Format s
-meant (parsed.Read i a n) b = Make (Read (Board i) a n room)
-meant (parsed.Write i a n) b = Make (Write (Board i) a (take n b))
-meant (parsed.Start i n) b = Make (Start i (take n b))
-meant (parsed.Acknowledge i n) b = Make (Acknowledge i (take n b))
-meant (parsed.Fault i) b = Make (Fault i)
-meant parsed.PowerUp b = Make PowerUp
-meant (parsed.Allow k) b = Allow k
-meant (parsed.Refused n) b = Refused n
+unfoldable pub meant : Result Parsed Refusal → List ℕ → Event
+meant (Ok (parsed.Format s)) b = Format s
+meant (Ok (parsed.Read i a n)) b = Make (Read (Board i) a n room)
+meant (Ok (parsed.Write i a n)) b = Make (Write (Board i) a (take n b))
+meant (Ok (parsed.Start i n)) b = Make (Start i (take n b))
+meant (Ok (parsed.Acknowledge i n)) b = Make (Acknowledge i (take n b))
+meant (Ok (parsed.Fault i)) b = Make (Fault i)
+meant (Ok parsed.PowerUp) b = Make PowerUp
+meant (Ok (parsed.Allow k)) b = Allow k
+meant (Err r) b = Refused (refusal_number r)
 
 -- how many bytes of the buffer the code's answer counts on
-unfoldable pub counted : Parsed → ℕ
-counted (parsed.Format s) = 0
-counted (parsed.Read i a n) = 0
-counted (parsed.Write i a n) = n
-counted (parsed.Start i n) = n
-counted (parsed.Acknowledge i n) = n
-counted (parsed.Fault i) = 0
-counted parsed.PowerUp = 0
-counted (parsed.Allow k) = 0
-counted (parsed.Refused n) = 0
+unfoldable pub counted : Result Parsed Refusal → ℕ
+counted (Ok (parsed.Format s)) = 0
+counted (Ok (parsed.Read i a n)) = 0
+counted (Ok (parsed.Write i a n)) = n
+counted (Ok (parsed.Start i n)) = n
+counted (Ok (parsed.Acknowledge i n)) = n
+counted (Ok (parsed.Fault i)) = 0
+counted (Ok parsed.PowerUp) = 0
+counted (Ok (parsed.Allow k)) = 0
+counted (Err r) = 0

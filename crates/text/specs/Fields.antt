@@ -1,5 +1,6 @@
 -- The fields of an event line (document 01, "Event lines and `rsmrun`"). A text is the list of its bytes.
 use Rattle.std.specs.Prelude.{ℕ, zero, suc, ◌+◌, ◌-◌, ◌*◌, Bool, true, false, ◌&&◌, cond, List, [], ◌∷◌, eqb, leb}
+use Rattle.std.specs.Prelude.{Option, None, Some}
 use Prim.Native.Char.{code}
 use Prim.Native.String.{String, [] as []ˢ, ◌∷◌ as ◌∷ˢ◌}
 
@@ -42,26 +43,22 @@ field (suc i) s = field i (after s)
 
 -- ---- numbers: 0 to 65,535 without leading zeros
 
--- a field read as a number
-pub data Number : Type 0 where
-  Value : ℕ → Number
-  Invalid : Number
-
 abbrev pub between : ℕ → ℕ → ℕ → Bool
 between low high c = leb low c && leb c high
 
 -- a number whose digits so far made v, and those that follow
-unfoldable pub number_from : ℕ → List ℕ → Number
-number_from v [] = Value v
+unfoldable pub number_from : ℕ → List ℕ → Option ℕ
+number_from v [] = Some v
 number_from v (c ∷ s) =
     let w = 10 * v + (c - 48) in
     let rest = number_from w s in
-    cond (between 48 57 c && leb w 65535) rest Invalid
+    cond (between 48 57 c && leb w 65535) rest None
 
-unfoldable pub number_of : List ℕ → Number
-number_of [] = Invalid
+-- a field read as a number
+unfoldable pub number_of : List ℕ → Option ℕ
+number_of [] = None
 number_of (c ∷ []) = number_from 0 (c ∷ [])
-number_of (c ∷ d ∷ s) = let whole = number_from 0 (c ∷ d ∷ s) in cond (eqb c 48) Invalid whole
+number_of (c ∷ d ∷ s) = let whole = number_from 0 (c ∷ d ∷ s) in cond (eqb c 48) None whole
 
 -- ---- bytes: pairs of hexadecimal digits 0-9 A-F, perhaps none
 

@@ -1,9 +1,9 @@
 -- The letters of event lines, and the commas of each (document 01, "Event lines and `rsmrun`").
-use Rattle.std.specs.Prelude.{ℕ, cond, List, [], ◌∷◌, eqb}
+use Rattle.std.specs.Prelude.{ℕ, List, [], ◌∷◌, eqb, find, Option, None, Some}
 use Prim.Native.Char.{code}
 use Rattle.text.specs.declared.Listing.{Listing}
 use Rattle.text.specs.declared.Letter.{Letter}
-use Rattle.text.specs.declared.Letter.TheVariants.{Listed, Unlisted}
+use Rattle.text.specs.declared.Letter.TheVariants as letter
 
 abbrev pub format_letter : ℕ
 format_letter = code "F"
@@ -33,26 +33,41 @@ allow_letter = code "Z"
 abbrev pub unknown_letter : ℕ
 unknown_letter = code "?"
 
+-- the character of each
+abbrev pub character_of : Letter → ℕ
+character_of letter.Format = format_letter
+character_of letter.Read = read_letter
+character_of letter.Write = write_letter
+character_of letter.Start = start_letter
+character_of letter.Acknowledge = acknowledge_letter
+character_of letter.Fault = fault_letter
+character_of letter.PowerUp = power_up_letter
+character_of letter.Allow = allow_letter
+
+-- of a row
+abbrev pub row_character : Option Letter → ℕ
+row_character (Some l) = character_of l
+row_character None = unknown_letter
+
 -- F 4, R 3, W 3, C 2, A 2, X 1, U 0, Z 1
 unfoldable pub table : List Listing
 table =
-    record { letter = format_letter; commas = 4 }
-    ∷ record { letter = read_letter; commas = 3 }
-    ∷ record { letter = write_letter; commas = 3 }
-    ∷ record { letter = start_letter; commas = 2 }
-    ∷ record { letter = acknowledge_letter; commas = 2 }
-    ∷ record { letter = fault_letter; commas = 1 }
-    ∷ record { letter = power_up_letter; commas = 0 }
-    ∷ record { letter = allow_letter; commas = 1 }
+    record { letter = letter.Format; commas = 4 }
+    ∷ record { letter = letter.Read; commas = 3 }
+    ∷ record { letter = letter.Write; commas = 3 }
+    ∷ record { letter = letter.Start; commas = 2 }
+    ∷ record { letter = letter.Acknowledge; commas = 2 }
+    ∷ record { letter = letter.Fault; commas = 1 }
+    ∷ record { letter = letter.PowerUp; commas = 0 }
+    ∷ record { letter = letter.Allow; commas = 1 }
     ∷ []
 
 -- a character read as a letter of a table
-unfoldable pub looked_up : ℕ → List Listing → Letter
-looked_up c [] = Unlisted
-looked_up c (e ∷ es) = let rest = looked_up c es in cond (eqb e.letter c) (Listed c e.commas) rest
+unfoldable pub looked_up : ℕ → List Listing → Option Listing
+looked_up c es = find (λ e. eqb (character_of e.letter) c) es
 
 -- a field read as a letter, which stands alone in it
-unfoldable pub letter_of : List ℕ → Letter
-letter_of [] = Unlisted
+unfoldable pub letter_of : List ℕ → Option Listing
+letter_of [] = None
 letter_of (c ∷ []) = looked_up c table
-letter_of (c ∷ d ∷ s) = Unlisted
+letter_of (c ∷ d ∷ s) = None

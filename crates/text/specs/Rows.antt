@@ -1,10 +1,11 @@
 -- Output lines (document 01, "Output fields").
 use Rattle.std.specs.Prelude.{ℕ, ◌+◌, ◌/◌, ◌%◌, Bool, cond, List, [], ◌∷◌, ◌++◌, ltb, leb, take}
-use Rattle.protocol.specs.declared.Answer.{Answer}
+use Rattle.std.specs.Prelude.{Option, None, Some, Result}
+use Rattle.protocol.specs.Answers.{Answer, answer_says}
+use Rattle.protocol.specs.declared.Answer.{Answer as Taken}
+use Rattle.protocol.specs.declared.Refusal.{Refusal}
 use Rattle.text.specs.Fields.{comma, line_feed}
-use Rattle.text.specs.Letters.{power_up_letter}
-use Rattle.text.specs.declared.Follows.{Follows}
-use Rattle.text.specs.declared.Follows.TheVariants.{Nothing, PowerUp}
+use Rattle.text.specs.Letters.{power_up_letter, row_character}
 use Rattle.text.specs.declared.Rows.{Rows}
 
 -- the letter of a line, what was answered, and the bytes read
@@ -54,11 +55,12 @@ rows_text n (r ∷ rs) = row_text n r ++ rows_text n rs
 
 -- ---- what the code's rows mean, with the bytes in its buffer
 
-unfoldable pub following : Follows → List Row
-following Nothing = []
-following (PowerUp answer) = record { letter = power_up_letter; answer = answer; bytes = [] } ∷ []
+unfoldable pub following : Option (Result Taken Refusal) → List Row
+following None = []
+following (Some answer) = record { letter = power_up_letter; answer = answer_says answer; bytes = [] } ∷ []
 
 unfoldable pub rows_meant : Rows → List ℕ → List Row
 rows_meant r buffer =
     let f = r.first in
-    record { letter = f.letter; answer = f.answer; bytes = take f.count buffer } ∷ following r.after
+    record { letter = row_character f.letter; answer = answer_says f.answer; bytes = take f.count buffer }
+    ∷ following r.after

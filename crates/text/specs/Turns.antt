@@ -1,11 +1,11 @@
 -- An event played on image, record and pending allowance (document 01, "Event lines and `rsmrun`").
-use Rattle.std.specs.Prelude.{ℕ, false, cond, List, [], ◌∷◌, ◌≢◌, eqb, replicate}
+use Rattle.std.specs.Prelude.{ℕ, cond, List, [], ◌∷◌, ◌≢◌, eqb, replicate}
 use Rattle.protocol.specs.Image.{allowed, total}
 use Rattle.volatile.specs.Volatile.{off}
 use Rattle.protocol.specs.Calls.{Request, Read, Write, Start, Acknowledge, Fault, PowerUp, Outcome, perform, format}
 use Rattle.protocol.specs.declared.Shape.{Shape}
 use Rattle.volatile.specs.declared.Record.{Record}
-use Rattle.protocol.specs.declared.Answer.{Answer}
+use Rattle.protocol.specs.Answers.{refusal_answer}
 use Rattle.text.specs.Letters.{format_letter, read_letter, write_letter, start_letter, acknowledge_letter}
 use Rattle.text.specs.Letters.{fault_letter, power_up_letter, allow_letter, unknown_letter}
 use Rattle.text.specs.Events.{Event, Format, Make, Allow, Refused}
@@ -48,8 +48,7 @@ ended letter o =
 -- a line that makes no call: 0 for Z, the refusal for one that can't be taken apart
 abbrev pub told : ℕ → ℕ → Player → Turn
 told letter status next =
-    let answer : Answer = record { status = status; decided = false; group = 0; stores = 0 } in
-    record { rows = record { letter = letter; answer = answer; bytes = [] } ∷ []; next = next }
+    record { rows = record { letter = letter; answer = refusal_answer status; bytes = [] } ∷ []; next = next }
 
 -- the letter of a request's line
 unfoldable pub request_letter : Request → ℕ

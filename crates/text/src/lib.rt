@@ -1,90 +1,87 @@
 #![tactic(auto)]
 // Event lines: the letters, what the fields of a line are read as, and the rows that a line gives.
-use protocol::{Answer, Shape};
+ghost use Rattle.std.specs.Prelude.{◌≡◌};
+ghost use Rattle.text.specs.Letters.{character_of, row_character};
 
-// The letters of event lines, and the character that stands for one in the row of a line that can't be taken apart.
-pub const FORMAT: u8 = b'F';
+use protocol::{Answer, Refusal, Shape};
 
-pub const READ: u8 = b'R';
+// The letters of event lines.
+#[derive(Clone, Copy, Debug, PartialEq, Eq)]
+pub enum Letter {
+    Format,
+    Read,
+    Write,
+    Start,
+    Acknowledge,
+    Fault,
+    PowerUp,
+    Allow,
+}
 
-pub const WRITE: u8 = b'W';
-
-pub const START: u8 = b'C';
-
-pub const ACKNOWLEDGE: u8 = b'A';
-
-pub const FAULT: u8 = b'X';
-
-pub const POWER_UP: u8 = b'U';
-
-pub const ALLOW: u8 = b'Z';
-
-pub const UNKNOWN: u8 = b'?';
-
-// The refusal of a line that can't be taken apart.
-pub const UNREADABLE: u8 = 6;
+impl Letter {
+    // The character that stands for it in a line.
+    pub fn character(self) -> u8
+        ensures { result ≡ character_of self }
+    {
+        match self {
+            Letter::Format => b'F',
+            Letter::Read => b'R',
+            Letter::Write => b'W',
+            Letter::Start => b'C',
+            Letter::Acknowledge => b'A',
+            Letter::Fault => b'X',
+            Letter::PowerUp => b'U',
+            Letter::Allow => b'Z',
+        }
+    }
+}
 
 // A letter and how many commas its lines have.
 #[derive(Clone, Copy)]
 pub struct Listing {
-    pub letter: u8,
+    pub letter: Letter,
     pub commas: u8,
 }
 
 // Document 01: F 4, R 3, W 3, C 2, A 2, X 1, U 0, Z 1.
 pub const TABLE: [Listing; 8] = [
     Listing {
-        letter: FORMAT,
+        letter: Letter::Format,
         commas: 4,
     },
     Listing {
-        letter: READ,
+        letter: Letter::Read,
         commas: 3,
     },
     Listing {
-        letter: WRITE,
+        letter: Letter::Write,
         commas: 3,
     },
     Listing {
-        letter: START,
+        letter: Letter::Start,
         commas: 2,
     },
     Listing {
-        letter: ACKNOWLEDGE,
+        letter: Letter::Acknowledge,
         commas: 2,
     },
     Listing {
-        letter: FAULT,
+        letter: Letter::Fault,
         commas: 1,
     },
     Listing {
-        letter: POWER_UP,
+        letter: Letter::PowerUp,
         commas: 0,
     },
     Listing {
-        letter: ALLOW,
+        letter: Letter::Allow,
         commas: 1,
     },
 ];
 
-// A field read as a letter of the table, with its commas.
+// What a line asks for. The bytes of a write and of a context stand in a buffer, `count` of them.
 #[derive(Clone, Copy)]
-pub enum Letter {
-    Listed(u8, u8),
-    Unlisted,
-}
-
-// A field read as pairs of hexadecimal digits: how many bytes, which stand in a buffer.
-#[derive(Clone, Copy)]
-pub enum Bytes {
-    Count(usize),
-    Malformed,
-}
-
-// A line taken apart, or the number of its refusal. The bytes of a write and of a context stand in a buffer, `count` of
-// them.
-#[derive(Clone, Copy)]
-pub enum Parsed {
+pub enum Event {
     Format {
         shape: Shape,
     },
@@ -113,27 +110,32 @@ pub enum Parsed {
     Allow {
         k: usize,
     },
-    Refused(u8),
 }
 
-// A row: its letter, what was answered, and how many bytes were read, which stand in a buffer.
+// A row: the letter of its line, unless that can't be taken apart, what was answered, and how many bytes were read,
+// which stand in a buffer.
 #[derive(Clone, Copy)]
 pub struct Row {
-    pub letter: u8,
-    pub answer: Answer,
+    pub letter: Option<Letter>,
+    pub answer: Result<Answer, Refusal>,
     pub count: usize,
 }
 
-// What follows a line's row: nothing or, after a cut, the row of the power-up.
-#[derive(Clone, Copy)]
-pub enum Follows {
-    Nothing,
-    PowerUp(Answer),
+impl Row {
+    // The character that stands for its letter, `?` where there is none.
+    pub fn character(self) -> u8
+        ensures { result ≡ row_character self.letter }
+    {
+        match self.letter {
+            Some(letter) => letter.character(),
+            None => b'?',
+        }
+    }
 }
 
-// The rows of a line.
+// The rows of a line: that of its call and, after a cut, what the power-up answered.
 #[derive(Clone, Copy)]
 pub struct Rows {
     pub first: Row,
-    pub after: Follows,
+    pub after: Option<Result<Answer, Refusal>>,
 }

@@ -1,13 +1,13 @@
 -- What a call leaves in the area that an image stands in, and what it answers, as an outcome of the definitions.
-use Prim.Native.Nat.{ℕ, zero, suc, ◌-◌, ◌≤◌, ◌<◌}
-use mathlib.Core.Path.{◌≡◌, refl, sym, ◌∙◌, ap}
+use Prim.Native.Nat.{ℕ, ◌-◌, ◌≤◌}
+use mathlib.Core.Path.{◌≡◌, sym, ◌∙◌, ap}
 use mathlib.Core.Bool.{true, false, cond}
-use mathlib.Core.List.{List, [], ◌∷◌, ◌++◌, map, append_assoc}
+use mathlib.Core.List.{List, [], ◌++◌, map, append_assoc}
 use mathlib.Core.Logic.{◌≢◌, ⊎_elim}
 use native.Mathlib.Omega.{arith}
 use lib.Dec.{eqb, ltb}
 use lib.Seq.{take-append_seam, take_at}
-use lib.ListN.{length, take, drop, set, replicate}
+use lib.ListN.{length, take, drop}
 use borrow.Author.Tests.{eq-eqb, eqb-true, eqb-false, le-ltb}
 use Rattle.protocol.specs.Image.{Store, view, shape_of, raw, Current}
 use Rattle.protocol.specs.Accesses.{board_of}
@@ -16,7 +16,7 @@ use Rattle.protocol.specs.Calls.{format, format_tests, formatting, filled}
 use Rattle.protocol.specs.declared.Shape.{Shape}
 use Rattle.protocol.specs.declared.Requester.{Requester}
 use Rattle.volatile.specs.declared.Record.{Record}
-use Rattle.protocol.specs.declared.Reply.{Reply}
+use Rattle.protocol.specs.Answers.{Reply}
 use Rattle.boards.proofs.Basics.{decide, clash, length_span}
 use Rattle.protocol.proofs.Refusals.{read_passed, entry_first}
 use Rattle.protocol.proofs.Bridge.{length_made}
@@ -27,17 +27,6 @@ use Rattle.protocol.proofs.Bridge.{length_made}
 pub lent_image : (n : ℕ) (area y : List ℕ) → length y ≡ n
     → take n (take 0 area ++ (y ++ drop (n - 0) (drop 0 area))) ≡ y
 lent_image n area y l = take_at y _ n l
-
--- the first i bytes zero, the others as they were
-pub zeros_more : (i : ℕ) (s : List ℕ) → i < length s
-    → set (replicate i 0 ++ drop i s) i 0 ≡ replicate (suc i) 0 ++ drop (suc i) s
-zeros_more i [] h = absurd (omega arith)
-zeros_more zero (c ∷ s) h = refl
-zeros_more (suc i) (c ∷ s) h = ap {B = List ℕ} (λ r. 0 ∷ r) (zeros_more i s (omega arith))
-
-pub zeros_all : (s : List ℕ) → replicate (length s) 0 ++ drop (length s) s ≡ replicate (length s) 0
-zeros_all [] = refl
-zeros_all (c ∷ s) = ap {B = List ℕ} (λ r. 0 ∷ r) (zeros_all s)
 
 -- ---- outcomes
 

@@ -2,7 +2,8 @@
 use Prim.Native.Nat.{ℕ, ◌-◌, ◌≤◌}
 use mathlib.Core.Path.{◌≡◌, refl, sym, ◌∙◌, ap, subst}
 use mathlib.Core.Bool.{cond}
-use mathlib.Core.List.{List, [], ◌++◌}
+use mathlib.Core.List.{List, [], ◌∷◌, ◌++◌}
+use Rattle.std.specs.Prelude.{None, Some}
 use mathlib.Core.Logic.{◌≢◌}
 use native.Mathlib.Omega.{arith}
 use native.Mathlib.Nat.{sub-zero}
@@ -15,14 +16,15 @@ use Rattle.protocol.specs.Calls.{format}
 use Rattle.protocol.specs.declared.Shape.{Shape}
 use Rattle.protocol.specs.declared.Requester.{Requester}
 use Rattle.volatile.specs.declared.Record.{Record}
+use Rattle.protocol.specs.Answers.{reply_says, answer_says}
 use Rattle.protocol.specs.declared.Reply.{Reply}
 use Rattle.store.specs.Promise.{Performed, Formatted, Answered}
 use Rattle.text.specs.Events.{room}
-use Rattle.text.specs.Letters.{format_letter, read_letter}
+use Rattle.text.specs.Letters.{format_letter, read_letter, power_up_letter, character_of}
 use Rattle.text.specs.Rows.{following, rows_meant}
 use Rattle.text.specs.Turns.{uncut, ended}
 use Rattle.text.specs.declared.Row.{Row}
-use Rattle.text.specs.declared.Follows.TheVariants.{Nothing, PowerUp}
+use Rattle.text.specs.declared.Letter.{Letter}
 use Rattle.turns.specs.Turned.{Turns, Powered, area_size}
 use Rattle.turns.specs.declared.Turned.{Turned}
 use Rattle.protocol.proofs.Demand1.{read_stores_nothing}
@@ -32,10 +34,10 @@ use Rattle.turns.proofs.Laws.{few_answered, bytes_answered}
 -- ---- a call on the first `size` bytes of the area
 
 -- The lists as the borrow checker has them: what is lent, and the area when that became `part`.
-abbrev lent : ℕ → List ℕ → List ℕ
+abbrev pub lent : ℕ → List ℕ → List ℕ
 lent size area = take (size - 0) (drop 0 area)
 
-abbrev left : ℕ → List ℕ → List ℕ → List ℕ
+abbrev pub left : ℕ → List ℕ → List ℕ → List ℕ
 left size area part = part ++ drop (size - 0) (drop 0 area)
 
 module _ (request : Request) (k : ℕ) (state : Record) (area : List ℕ) (size : ℕ) {reply : Reply} {part : List ℕ}
@@ -58,7 +60,7 @@ module _ (request : Request) (k : ℕ) (state : Record) (area : List ℕ) (size 
   -- a turn with what the call left is the turn of its outcome
   pub called : (letter : ℕ) {bytes : List ℕ} {r : Turned} {x buffer : List ℕ} →
       bytes ≡ (perform (take size area) state request k).bytes →
-      Turns (ended letter (record { reply = reply; image = take size (left size area part); bytes = bytes }))
+      Turns (ended letter (record { reply = reply_says reply; image = take size (left size area part); bytes = bytes }))
       r x buffer →
       Turns (ended letter (perform (take size area) state request k)) r x buffer
   unfolding o
@@ -72,48 +74,49 @@ pub powered : (state : Record) (area : List ℕ) (size : ℕ) (first : Row) {rep
     Powered (perform (take size area) state PowerUp uncut) size first
     (record {
       next = record { length = size; state = reply.next; k = uncut };
-      rows = record { first = first; after = PowerUp reply.answer };
+      rows = record { first = first; after = Some reply.answer };
     }) (left size area part)
-unfolding o
+unfolding o following
 powered state area size first l p =
     let q = performed PowerUp uncut state area size l p in
     record {
-      rows = rw q.reply;
-      next = rw (q.reply, image_left PowerUp uncut state area size l p);
+      first_row = refl;
+      second_row = ap (λ r. record { letter = power_up_letter; answer = r.answer; bytes = [] } ∷ []) q.reply;
+      next = rw (← q.reply, image_left PowerUp uncut state area size l p);
       same = refl;
     }
 
 -- ---- turns
 
 -- the row of a call, with so many bytes of the buffer, and its outcome
-abbrev first_row : ℕ → Reply → ℕ → Row
-first_row letter reply count = record { letter = letter; answer = reply.answer; count = count }
+abbrev first_row : Letter → Reply → ℕ → Row
+first_row letter reply count = record { letter = Some letter; answer = reply.answer; count = count }
 
 abbrev outcome : Reply → List ℕ → ℕ → List ℕ → Outcome
-outcome reply image count buffer = record { reply = reply; image = image; bytes = take count buffer }
+outcome reply image count buffer = record { reply = reply_says reply; image = image; bytes = take count buffer }
 
 -- a call that was cut
-pub cut_turn : (letter : ℕ) (reply : Reply) (image : List ℕ) {count size : ℕ} (buffer : List ℕ) {r : Turned}
-    {area : List ℕ} → count ≤ room → size ≤ area_size → reply.answer.status ≡ 9 →
+pub cut_turn : (letter : Letter) (reply : Reply) (image : List ℕ) {count size : ℕ} (buffer : List ℕ) {r : Turned}
+    {area : List ℕ} → count ≤ room → size ≤ area_size → (answer_says reply.answer).status ≡ 9 →
     Powered (perform image reply.next PowerUp uncut) size (first_row letter reply count) r area →
-    Turns (ended letter (outcome reply image count buffer)) r area buffer
+    Turns (ended (character_of letter) (outcome reply image count buffer)) r area buffer
 unfolding ended rows_meant following plan
 cut_turn letter reply image buffer few l nine p =
     rw (eq-eqb _ _ nine)
     (record {
-      rows = rw (p.rows, ← no_bytes image reply.next PowerUp uncut refl);
+      rows = rw (p.first_row, p.second_row, ← no_bytes image reply.next PowerUp uncut refl);
       next = p.next;
       fits = omega (arith, p.same);
-      few = rw p.rows few;
+      few = rw p.first_row few;
     })
 
 -- a call that was not
-pub done_turn : (letter : ℕ) (reply : Reply) (size : ℕ) (area : List ℕ) {count : ℕ} (buffer : List ℕ) →
-    count ≤ room → size ≤ area_size → reply.answer.status ≢ 9 →
-    Turns (ended letter (outcome reply (take size area) count buffer))
+pub done_turn : (letter : Letter) (reply : Reply) (size : ℕ) (area : List ℕ) {count : ℕ} (buffer : List ℕ) →
+    count ≤ room → size ≤ area_size → (answer_says reply.answer).status ≢ 9 →
+    Turns (ended (character_of letter) (outcome reply (take size area) count buffer))
     (record {
       next = record { length = size; state = reply.next; k = uncut };
-      rows = record { first = first_row letter reply count; after = Nothing };
+      rows = record { first = first_row letter reply count; after = None };
     }) area buffer
 unfolding ended rows_meant following
 done_turn letter reply size area buffer few l other =
@@ -125,7 +128,7 @@ done_turn letter reply size area buffer few l other =
 module _ (area : List ℕ) (size : ℕ) (state : Record) (who : Requester) (a n k : ℕ) (buffer : List ℕ) {count : ℕ}
     {x : List ℕ} {reply : Reply} (l : room ≤ length buffer)
     (m : Answered (Read who a n (length (take room buffer))) (lent size area) state (take room buffer) reply x)
-    (c : count ≡ cond (eqb reply.answer.status 0) n 0) where
+    (c : count ≡ cond (eqb (answer_says reply.answer).status 0) n 0) where
   asked : Answered (Read who a n room) (take size area) state (take room buffer) reply x
   asked = rw sub-zero at (rw length-take-le at m)
 
@@ -149,7 +152,7 @@ module _ (area : List ℕ) (size : ℕ) (state : Record) (who : Requester) (a n 
 -- a format that left the area's first bytes, as a turn
 pub formatted : (s : Shape) (image : List ℕ) (k : ℕ) (state : Record) {image' : List ℕ} {reply : Reply} {r : Turned}
     {x buffer : List ℕ} → Formatted s image state k reply image' →
-    Turns (ended format_letter (record { reply = reply; image = image'; bytes = [] })) r x buffer →
+    Turns (ended format_letter (record { reply = reply_says reply; image = image'; bytes = [] })) r x buffer →
     Turns (ended format_letter (format s image state k)) r x buffer
 formatted s image k state {r} {x} {buffer} f t =
     subst (λ (q : Outcome). Turns (ended format_letter q) r x buffer)

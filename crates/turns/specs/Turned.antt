@@ -1,11 +1,14 @@
 -- The code's player: its image stands at the start of a larger area. What playing an event promises.
-use Rattle.std.specs.Prelude.{ℕ, ◌≤◌, ◌≡◌, List, length, take}
+use Rattle.std.specs.Prelude.{ℕ, ◌≤◌, ◌≡◌, List, [], ◌∷◌, Result, Ok, Err, length, take}
+use Rattle.protocol.specs.Refusals.{number_of}
+use Rattle.protocol.specs.declared.Refusal.{Refusal}
 use Rattle.protocol.specs.Calls.{Outcome}
 use Rattle.text.specs.Events.{room}
-use Rattle.text.specs.Rows.{rows_meant}
+use Rattle.text.specs.Letters.{power_up_letter, unknown_letter, character_of}
+use Rattle.text.specs.declared.Letter.{Letter}
+use Rattle.text.specs.Rows.{following, rows_meant}
 use Rattle.text.specs.Turns.{Player, Turn, moved}
 use Rattle.text.specs.declared.Row.{Row}
-use Rattle.text.specs.declared.Follows.TheVariants.{PowerUp}
 use Rattle.turns.specs.declared.Session.{Session}
 use Rattle.turns.specs.declared.Turned.{Turned}
 
@@ -31,6 +34,17 @@ pub record Turns (t : Turn) (r : Turned) (area buffer : List ℕ) : Type 0 where
 
 -- after a row, that of the power-up o, and the player after it
 pub record Powered (o : Outcome) (size : ℕ) (first : Row) (r : Turned) (area : List ℕ) : Type 0 where
-  pub rows : r.rows ≡ record { first = first; after = PowerUp o.reply.answer }
+  pub first_row : r.rows.first ≡ first
+  pub second_row : following r.rows.after
+      ≡ record { letter = power_up_letter; answer = o.reply.answer; bytes = [] } ∷ []
   pub next : player_of r.next area ≡ moved o
   pub same : r.next.length ≡ size
+
+-- the letter of a line that makes no call, `?` for one that can't be taken apart; 0, or the number of its refusal
+abbrev pub character_told : Result Letter Refusal → ℕ
+character_told (Ok letter) = character_of letter
+character_told (Err why) = unknown_letter
+
+abbrev pub status_told : Result Letter Refusal → ℕ
+status_told (Ok letter) = 0
+status_told (Err why) = number_of why

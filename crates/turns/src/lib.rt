@@ -2,14 +2,15 @@
 // How a line's turn ends: its rows, the power-up after a cut, and what stands between two lines.
 ghost use Rattle.std.specs.Prelude.{◌≡◌, cond, List, ℕ, ◌≤◌, eqb, length, take};
 ghost use Rattle.volatile.specs.declared.Record.{Record as State};
+ghost use Rattle.protocol.specs.Answers.{answer_says, reply_says, refusal_answer};
 ghost use Rattle.protocol.specs.Calls.{perform, PowerUp};
+ghost use Rattle.text.specs.Letters.{character_of, row_character};
 ghost use Rattle.text.specs.Turns.{ended, told, uncut};
-ghost use Rattle.turns.specs.Turned.{Turns, Powered};
+ghost use Rattle.turns.specs.Turned.{Turns, Powered, character_told, status_told};
 
-use protocol::{Answer, Reply};
+use protocol::{Answer, Refusal, Reply};
 use recovery::power_up;
-use store::answers::CUT;
-use text::{Follows, Row, Rows};
+use text::{Letter, Row, Rows};
 use volatile::Record;
 
 // More than any call stores.
@@ -37,33 +38,42 @@ fn power_turn(area: &mut [u8], size: usize, first: Row) -> Turned
         size first result area.new }
 {
     let up = power_up(&mut area[0..size], UNCUT);
-    let answer = up.answer;
     let state = up.next;
     let next = Session {
         length: size,
         state,
         k: UNCUT,
     };
-    let after = Follows::PowerUp(answer);
+    let after = Some(up.answer);
     let rows = Rows { first, after };
     Turned { next, rows }
 }
 
+fn was_cut(answer: Result<Answer, Refusal>) -> bool
+    ensures { result ≡ eqb (answer_says answer).status 9 }
+{
+    match answer {
+        Ok(a) => a.cut,
+        Err(_) => false,
+    }
+}
+
 // A call's row, with the first `count` bytes of a buffer; after a cut the power-up follows.
-pub fn end_turn(area: &mut [u8], size: usize, reply: Reply, letter: u8, count: usize) -> Turned
+pub fn end_turn(area: &mut [u8], size: usize, reply: Reply, letter: Letter, count: usize) -> Turned
     requires { (size ≤ 35852) × (35852 ≤ length area.old) × (count ≤ 64) }
     ensures { (buffer : List ℕ) → Turns
-        (ended letter (record { reply = reply; image = take size area.old; bytes = take count buffer }))
+        (ended (character_of letter)
+        (record { reply = reply_says reply; image = take size area.old; bytes = take count buffer }))
         result area.new buffer }
 {
     let answer = reply.answer;
     let state = reply.next;
     let first = Row {
-        letter,
+        letter: Some(letter),
         answer,
         count,
     };
-    if answer.status == CUT {
+    if was_cut(answer) {
         return power_turn(area, size, first);
     }
     let next = Session {
@@ -71,29 +81,42 @@ pub fn end_turn(area: &mut [u8], size: usize, reply: Reply, letter: u8, count: u
         state,
         k: UNCUT,
     };
-    let after = Follows::Nothing;
+    let after = None;
     let rows = Rows { first, after };
     Turned { next, rows }
 }
 
-// The row of a line that makes no call; k is the allowance of the next line.
-pub fn tell(p: Session, letter: u8, status: u8, k: usize) -> Turned
+// The row of a line that makes no call: no bytes, and nothing answered but the refusal of one that can't be taken
+// apart.
+fn told_row(letter: Result<Letter, Refusal>) -> Row
+    ensures letter { row_character result.letter ≡ character_told letter }
+    ensures answer { answer_says result.answer ≡ refusal_answer (status_told letter) }
+    ensures count { result.count ≡ 0 }
+{
+    match letter {
+        Ok(letter) => Row {
+            letter: Some(letter),
+            answer: Ok(Answer::default()),
+            count: 0,
+        },
+        Err(why) => Row {
+            letter: None,
+            answer: Err(why),
+            count: 0,
+        },
+    }
+}
+
+// The row of a line that makes no call, by its letter, or of one that can't be taken apart; k is the allowance of the
+// next line.
+pub fn tell(p: Session, letter: Result<Letter, Refusal>, k: usize) -> Turned
     requires { p.length ≤ 35852 }
     ensures { (area : List ℕ) (buffer : List ℕ) → Turns
-        (told letter status (record { image = take p.length area; state = p.state; k = k })) result area buffer }
+        (told (character_told letter) (status_told letter)
+        (record { image = take p.length area; state = p.state; k = k })) result area buffer }
 {
-    let answer = Answer {
-        status,
-        decided: false,
-        group: 0,
-        stores: 0,
-    };
-    let first = Row {
-        letter,
-        answer,
-        count: 0,
-    };
-    let after = Follows::Nothing;
+    let first = told_row(letter);
+    let after = None;
     let rows = Rows { first, after };
     let state = p.state;
     let next = Session {
@@ -104,9 +127,12 @@ pub fn tell(p: Session, letter: u8, status: u8, k: usize) -> Turned
     Turned { next, rows }
 }
 
-// The bytes that a read answered: all or none.
-pub fn answered(status: u8, n: usize) -> usize
-    ensures { result ≡ cond (eqb status 0) n 0 }
+// How many bytes a read of n answered: all, or none if it was refused.
+pub fn answered(answer: Result<Answer, Refusal>, n: usize) -> usize
+    ensures { result ≡ cond (eqb (answer_says answer).status 0) n 0 }
 {
-    if status == 0 { n } else { 0 }
+    match answer {
+        Ok(a) => if a.cut { 0 } else { n },
+        Err(_) => 0,
+    }
 }

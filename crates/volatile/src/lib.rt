@@ -2,34 +2,22 @@
 // The volatile record (document 01, "The record"): its methods hand the next record back.
 ghost use Rattle.std.specs.Prelude.{◌≡◌, ◌<◌};
 ghost use Rattle.boards.specs.Rows.{emptied};
-ghost use Rattle.volatile.specs.Volatile.{closed, fresh, off, engaged, commit_of, left_open};
+ghost use Rattle.volatile.specs.Volatile.{fresh, off, engaged, commit_of, left_open};
 ghost use Rattle.volatile.specs.Volatile.{depend, clear, acknowledge, start};
 
 use boards::{Closure, sets};
 
-// A commit: who started it, who takes part, who has acknowledged. Open while it has members, else all zero.
-#[derive(Clone, Copy)]
+// A commit: who started it, who takes part, who has acknowledged. Open while it has members, else all zero, which is
+// the default.
+#[derive(Clone, Copy, PartialEq, Eq, Default, Debug)]
 pub struct Commit {
     pub starter: u8,
     pub members: u16,
     pub acknowledged: u16,
 }
 
-impl Commit {
-    // No open commit: all zero.
-    fn closed() -> Commit
-        ensures { result ≡ closed }
-    {
-        Commit {
-            starter: 0,
-            members: 0,
-            acknowledged: 0,
-        }
-    }
-}
-
 // The volatile record (document 01, "The record"): bit j of row i says that board i depends on board j.
-#[derive(Clone, Copy)]
+#[derive(Clone, Copy, PartialEq, Eq, Default, Debug)]
 pub struct Record {
     pub on: bool,
     pub rows: [u16; 16],
@@ -37,27 +25,20 @@ pub struct Record {
 }
 
 impl Record {
-    // All zero.
+    // All zero, the default.
     pub fn off() -> Record
         ensures { result ≡ off }
     {
-        let commit = Commit::closed();
-        Record {
-            on: false,
-            rows: [0u16; 16],
-            commit,
-        }
+        Record::default()
     }
 
     // On, else empty.
     pub fn fresh() -> Record
         ensures { result ≡ fresh }
     {
-        let commit = Commit::closed();
         Record {
             on: true,
-            rows: [0u16; 16],
-            commit,
+            ..Record::default()
         }
     }
 
@@ -72,8 +53,7 @@ impl Record {
     pub fn commit_of(self, i: u8) -> Commit
         ensures { result ≡ commit_of self i }
     {
-        let commit = self.commit;
-        commit
+        self.commit
     }
 
     // Board i depends on board j.
@@ -82,26 +62,19 @@ impl Record {
         ensures { result ≡ depend self i j }
     {
         let mut rows = self.rows;
-        let commit = self.commit;
         let at = i as usize;
-        let row = rows[at];
-        rows[at] = sets::with_board(row, j);
-        Record {
-            on: self.on,
-            rows,
-            commit,
-        }
+        rows[at] = sets::with_board(rows[at], j);
+        Record { rows, ..self }
     }
 
     // The commit that is left: none if the open one has a member in g, and so is dropped.
     fn left_open(self, g: u16) -> Commit
         ensures { result ≡ left_open self g }
     {
-        let commit = self.commit;
-        if sets::meet(commit.members, g) {
-            return Commit::closed();
+        if sets::meet(self.commit.members, g) {
+            return Commit::default();
         }
-        commit
+        self.commit
     }
 
     // The rows become those that the group brings, its own emptied; an open commit with a member in it is dropped.
@@ -112,9 +85,9 @@ impl Record {
         let rows = group.rows;
         let commit = self.left_open(group.members);
         Record {
-            on: self.on,
             rows,
             commit,
+            ..self
         }
     }
 
@@ -123,18 +96,12 @@ impl Record {
         requires { i < 16 }
         ensures { result ≡ start self i g }
     {
-        let rows = self.rows;
-        let own = sets::with_board(0, i);
         let commit = Commit {
             starter: i,
             members: g,
-            acknowledged: own,
+            acknowledged: sets::with_board(0, i),
         };
-        Record {
-            on: self.on,
-            rows,
-            commit,
-        }
+        Record { commit, ..self }
     }
 
     // Board i acknowledges the open commit.
@@ -142,17 +109,11 @@ impl Record {
         requires { i < 16 }
         ensures { result ≡ acknowledge self i }
     {
-        let rows = self.rows;
         let old = self.commit;
         let commit = Commit {
-            starter: old.starter,
-            members: old.members,
             acknowledged: sets::with_board(old.acknowledged, i),
+            ..old
         };
-        Record {
-            on: self.on,
-            rows,
-            commit,
-        }
+        Record { commit, ..self }
     }
 }

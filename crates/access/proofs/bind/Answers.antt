@@ -9,7 +9,20 @@ use Rattle.volatile.specs.Volatile.{depend}
 use Rattle.volatile.specs.declared.Record.{Record}
 use Rattle.access.proofs.Laws.{bind_none, bind_own, bind_other}
 use Rattle.access.proofs.bind.Goals as goal
-use Rattle.access.proofs.bind.Goals.{in-TwoWay, in-Opposite}
+use Rattle.access.proofs.bind.Goals.{In-Some, in-TwoWay, in-Opposite}
+
+-- the tag names this board
+named : (c : In-Some) → c.args.tag ≡ suc c.in-Some.j
+named c = c.writer_of.ensures ∙ ap tag_of c.in-Some.is
+
+-- both boards are below 16
+both_small : (c : In-Some) → (c.args.i < 16) × (c.in-Some.j < 16)
+both_small c = (omega (arith, c.requires), omega (arith, c.requires, named c))
+
+-- the board and another writer, whatever the kind of binding
+other : (c : In-Some) → (c.args.i ≡ c.in-Some.j → ⊥) → (how : Binding)
+    → bind_boards depend how c.args.state c.args.i c.in-Some.j ≡ bind_tag depend how c.args.state c.args.i c.args.tag
+other c apart how = bind_other how c.args.state c.args.i _ (named c) apart
 
 pub returns-in_default : goal.returns-in_default
 returns-in_default c =
@@ -18,63 +31,33 @@ returns-in_default c =
 
 pub returns-then-i-j : goal.returns-then-i-j
 returns-then-i-j c =
-    -- the tag names this board
-    let named : c.args.tag ≡ suc c.in-Board.j = c.writer_of.ensures ∙ ap tag_of c.in-Board.is in
-    bind_own c.args.how c.args.state c.args.i _ (named) c.if-i-j.true
+    bind_own c.args.how c.args.state c.args.i _ (named (goal.at.returns-then-i-j c).In-Some) c.if-i-j.true
 
 pub depend-requires : goal.depend-requires
 depend-requires c =
-    -- the tag names this board
-    let named : c.args.tag ≡ suc c.in-Board.j = c.writer_of.ensures ∙ ap tag_of c.in-Board.is in
-    -- both boards are below 16
-    let both_small : (c.args.i < 16) × (c.in-Board.j < 16) =
-    (omega (arith, c.requires), omega (arith, c.requires, named)) in
-    let both = both_small in (omega (arith, both), omega (arith, both))
+    let both = both_small (goal.at.depend-requires c).In-Some in (omega (arith, both), omega (arith, both))
 
 pub returns-in-OneWay : goal.returns-in-OneWay
 unfolding bind_boards
 returns-in-OneWay c =
-    -- the tag names this board
-    let named : c.args.tag ≡ suc c.in-Board.j = c.writer_of.ensures ∙ ap tag_of c.in-Board.is in
-    -- the board and another writer, whatever the kind of binding
-    let other : (how : Binding) →
-    bind_boards depend how c.args.state c.args.i c.in-Board.j
-    ≡ bind_tag depend how c.args.state c.args.i c.args.tag = λ how.
-    bind_other how c.args.state c.args.i _ (named) c.if-i-j.false in
-    c.depend.ensures ∙ rw c.in-OneWay.is (other _)
+    c.depend.ensures ∙ rw c.in-OneWay.is (other (goal.at.returns-in-OneWay c).In-Some c.if-i-j.false _)
 
 pub depend-forth-requires : goal.depend-forth-requires
 depend-forth-requires c =
-    -- the tag names this board
-    let named : c.args.tag ≡ suc c.in-Board.j = c.writer_of.ensures ∙ ap tag_of c.in-Board.is in
-    -- both boards are below 16
-    let both_small : (c.args.i < 16) × (c.in-Board.j < 16) =
-    (omega (arith, c.requires), omega (arith, c.requires, named)) in
-    let both = both_small in (omega (arith, both), omega (arith, both))
+    let both = both_small (goal.at.depend-forth-requires c).In-Some in (omega (arith, both), omega (arith, both))
 
 pub depend-requires-2 : goal.depend-requires-2
 depend-requires-2 c =
-    -- the tag names this board
-    let named : c.args.tag ≡ suc c.in-Board.j = c.writer_of.ensures ∙ ap tag_of c.in-Board.is in
-    -- both boards are below 16
-    let both_small : (c.args.i < 16) × (c.in-Board.j < 16) =
-    (omega (arith, c.requires), omega (arith, c.requires, named)) in
-    let both = both_small in (omega (arith, both), omega (arith, both))
+    let both = both_small (goal.at.depend-requires-2 c).In-Some in (omega (arith, both), omega (arith, both))
 
 -- the link back, after the one forth or by itself
 pub returns : goal.returns
 unfolding bind_boards
 returns c =
-    -- the tag names this board
-    let named : c.args.tag ≡ suc c.in-Board.j = c.writer_of.ensures ∙ ap tag_of c.in-Board.is in
-    -- the board and another writer, whatever the kind of binding
-    let other : (how : Binding) →
-    bind_boards depend how c.args.state c.args.i c.in-Board.j
-    ≡ bind_tag depend how c.args.state c.args.i c.args.tag = λ how.
-    bind_other how c.args.state c.args.i _ (named) c.if-i-j.false in
-    let back : Record → Record = λ r. depend r c.in-Board.j c.args.i in
+    let back : Record → Record = λ r. depend r c.in-Some.j c.args.i in
+    let linked = other (goal.at.returns c).In-Some c.if-i-j.false in
     c.depend-2.ensures
     ∙ elim c.match-how.branch [
-      | in-TwoWay w ↦ ap back (w.forth-is ∙ w.depend-forth.ensures) ∙ rw w.in-TwoWay.is (other _)
-      | in-Opposite w ↦ ap back w.forth-is ∙ rw w.in-Opposite.is (other _)
+      | in-TwoWay w ↦ ap back (w.forth-is ∙ w.depend-forth.ensures) ∙ rw w.in-TwoWay.is (linked _)
+      | in-Opposite w ↦ ap back w.forth-is ∙ rw w.in-Opposite.is (linked _)
     ]

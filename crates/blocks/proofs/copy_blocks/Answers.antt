@@ -1,20 +1,15 @@
 -- `copy_blocks` meets its contract: at block b the puts of the first b blocks are made, read off the entry.
 use Prim.Native.Nat.{◌+◌}
-use mathlib.Core.Path.{◌≡◌, ◌∙◌, subst}
+use mathlib.Core.Path.{◌≡◌, subst}
 use native.Mathlib.Omega.{arith}
 use Rattle.boards.specs.Lists.{for}
 use Rattle.protocol.specs.Image.{view}
 use Rattle.protocol.specs.Calls.{blocks_copied}
-use Rattle.layout.proofs.Laws.{bounded}
 use Rattle.store.specs.Puts.{Puts}
 use Rattle.blocks.specs.Banks.{block_puts}
 use Rattle.blocks.proofs.Blocks.{blocks_again, blocks_skip}
-use Rattle.store.proofs.Chains.{puts_length, puts_none}
+use Rattle.store.proofs.Chains.{puts_none}
 use Rattle.blocks.proofs.copy_blocks.Goals as goal
-
-pub next_tagged-b-requires : goal.next_tagged-b-requires
-next_tagged-b-requires c =
-    (c.requires.0, c.requires.1, omega arith)
 
 pub loop-b-init : goal.loop-b-init
 unfolding for
@@ -24,24 +19,6 @@ loop-b-init c = (
       (omega arith) c.next_tagged-b.ensures.1
       c.next_tagged-b.ensures.2 (puts_none _ _ _),
 )
-
-pub copy_block-left-requires : goal.copy_block-left-requires
-copy_block-left-requires c =
-    (c.requires.0, puts_length c.loop-b.invariant.1 ∙ c.requires.1, c.loop-b-test.true)
-
-pub overflow_add-b : goal.overflow_add-b
-overflow_add-b c =
-    omega (arith, bounded c.requires.0, c.loop-b.invariant.0)
-
-pub next_tagged-b-requires-in-loop-b : goal.next_tagged-b-requires-in-loop-b
-next_tagged-b-requires-in-loop-b c = (
-  c.requires.0,
-  puts_length c.copy_block-left.ensures ∙ puts_length c.loop-b.invariant.1 ∙ c.requires.1,
-  omega (arith, c.loop-b-test.true),
-)
-
-pub loop-b-smaller : goal.loop-b-smaller
-loop-b-smaller c = omega (arith, c.next_tagged-b-in-loop-b.ensures.0, c.loop-b-test.true)
 
 pub loop-b-preserved : goal.loop-b-preserved
 loop-b-preserved c = (

@@ -1,4 +1,3 @@
-use Prim.Native.Nat.{◌-◌, ◌≤◌}
 use Rattle.boards.specs.Lists.{for}
 use Rattle.protocol.specs.Image.{view}
 use Rattle.protocol.specs.Calls.{context_saved}
@@ -7,8 +6,4 @@ use Rattle.blocks.proofs.copy_contexts.Given as goal
 
 abbrev pub invariant-loop-i : goal.invariant-loop-i
 invariant-loop-i l =
-    (l.i ≤ l.s.boards) × Puts l.s (for l.i (context_saved l.s (view l.s l.initial.image) l.g)) l.initial.left
-    l.initial.image l.left l.image
-
-abbrev pub decreases-loop-i : goal.decreases-loop-i
-decreases-loop-i l = l.s.boards - l.i
+    Puts l.s (for l.i (context_saved l.s (view l.s l.initial.image) l.g)) l.initial.left l.initial.image l.left l.image

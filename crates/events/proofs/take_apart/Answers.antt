@@ -15,26 +15,12 @@ unfolding meant counted with_letter
 returns-in_default c =
     (taken_as _ c.if-line-gt-LONGEST.false c.first_letter.ensures c.in_default.is, omega arith)
 
-pub take_bytes-requires : goal.take_bytes-requires
-take_bytes-requires c = (
-  sym c.first_letter.ensures ∙ c.in-Listed.is,
-  sym c.ends_in_bytes.ensures ∙ c.if-ends_in_bytes.true,
-  omega arith,
-  omega arith,
-)
-
 pub returns-then-ends_in_bytes : goal.returns-then-ends_in_bytes
 returns-then-ends_in_bytes c =
-    let same = taken_as _ c.if-line-gt-LONGEST.false c.first_letter.ensures c.in-Listed.is in
+    let same = taken_as _ c.if-line-gt-LONGEST.false c.first_letter.ensures c.in-Some.is in
     (c.take_bytes.ensures.0 ∙ same, c.take_bytes.ensures.1)
-
-pub take_numbers-requires : goal.take_numbers-requires
-take_numbers-requires c = (
-  sym c.first_letter.ensures ∙ c.in-Listed.is,
-  sym c.ends_in_bytes.ensures ∙ c.if-ends_in_bytes.false,
-)
 
 pub returns : goal.returns
 returns c =
-    let same = taken_as _ c.if-line-gt-LONGEST.false c.first_letter.ensures c.in-Listed.is in
+    let same = taken_as _ c.if-line-gt-LONGEST.false c.first_letter.ensures c.in-Some.is in
     (c.take_numbers.ensures.0 _ ∙ same, c.take_numbers.ensures.1)

@@ -14,8 +14,8 @@ invariant-loop-buffer l =
     × (l.written ≤ length l.initial.out)
     × Fits l.current
     × (length l.buffer ≡ 80)
-    × Output reporting (state_of l.initial.current l.initial.area) l.piece (state_of l.current l.area) l.read
-    (take l.written l.out)
+    × Output reporting (state_of l.initial.current l.initial.area) l.piece (state_of l.current l.area)
+    l.read (take l.written l.out)
 
 abbrev pub decreases-loop-buffer : goal.decreases-loop-buffer
 decreases-loop-buffer l =

@@ -1,17 +1,15 @@
--- `find` meets its contract: the characters passed and those still before the first d are all before it.
-use native.Mathlib.Omega.{arith}
-use Rattle.fields.proofs.Laws.{until_stop, until_more, until_end}
+-- `find` meets its contract: the first d is as far behind the start as characters stand before it.
+use Rattle.std.proofs.Common.{◌∙◌, rules, tests, eqb, ap}
+use Rattle.std.specs.Prelude.{unwrap_or}
+use lib.ListN.{length}
+use Rattle.std.proofs.lemmas.Iterator.{YieldsList-from_slice}
+use Rattle.std.proofs.lemmas.Iterator.Search.{position_from_yields_List}
+use Rattle.fields.proofs.Laws.{found_until}
 use Rattle.fields.proofs.find.Goals as goal
-
-pub returns-then-s-i : goal.returns-then-s-i
-returns-then-s-i c =
-    omega (arith, until_stop c.args.s.now c.loop-i.i (omega arith) c.args.d c.if-s-i.true)
-
-pub loop-i-preserved : goal.loop-i-preserved
-loop-i-preserved c =
-    let next = until_more c.args.s.now c.loop-i.i (omega arith) c.args.d c.if-s-i.false in
-    (omega arith, omega arith)
 
 pub returns : goal.returns
 returns c =
-    omega (arith, until_end c.args.s.now c.loop-i.i (omega arith) c.args.d)
+    let s = c.args.s.now in
+    let found = position_from_yields_List (λ x. eqb x c.args.d) _ _ c.position.result c.position.ensures.ran
+    (YieldsList-from_slice s cc) (λ x b q k. search (rules, tests)) in
+    c.unwrap_or.ensures ∙ ap (λ r. unwrap_or r (length s)) found ∙ found_until c.args.d s

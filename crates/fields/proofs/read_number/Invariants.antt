@@ -1,4 +1,4 @@
-use Prim.Native.Nat.{◌+◌, ◌-◌, ◌≤◌}
+use Prim.Native.Nat.{◌+◌, ◌≤◌}
 use mathlib.Core.Path.{◌≡◌}
 use lib.ListN.{length, drop}
 use Rattle.text.specs.Fields.{before, number_from}
@@ -6,8 +6,5 @@ use Rattle.fields.proofs.read_number.Given as goal
 
 abbrev pub invariant-loop-i : goal.invariant-loop-i
 invariant-loop-i l =
-    (l.i ≤ length l.s) × (l.v ≤ 65535) × (number_from l.v (before (drop l.i l.s)) ≡ number_from 0 (before l.s))
+    (l.v ≤ 65535) × (number_from l.v (before (drop l.i l.s)) ≡ number_from 0 (before l.s))
     × (l.i + length (before (drop l.i l.s)) ≡ length (before l.s))
-
-abbrev pub decreases-loop-i : goal.decreases-loop-i
-decreases-loop-i l = length l.s - l.i

@@ -8,7 +8,7 @@ use Rattle.protocol.proofs.Bridge.{view_at}
 use Rattle.layout.proofs.Laws.{bounded}
 use Rattle.costs.specs.Forecasts.{those, tagged_blocks}
 use Rattle.costs.proofs.Counted.{those_none, those_most}
-use Rattle.forecast.proofs.Laws.{chosen, one_more, untagged_passed}
+use Rattle.forecast.proofs.Laws.{chosen, one_more, test_small, untagged_passed}
 use Rattle.forecast.proofs.tagged_count.Goals as goal
 
 pub next_tagged-b-requires : goal.next_tagged-b-requires
@@ -22,19 +22,18 @@ loop-b-init c = (
       c.next_tagged-b.ensures.1 c.next_tagged-b.ensures.2,
 )
 
-pub overflow_add-tag : goal.overflow_add-tag
-overflow_add-tag c = omega (arith, (bounded c.requires.0).limits)
-
 pub bounds-image-b : goal.bounds-image-b
 unfolding total
 bounds-image-b c = omega arith
 
-pub counted-n-requires : goal.counted-n-requires
-counted-n-requires c =
+pub overflow_add-n : goal.overflow_add-n
+overflow_add-n c =
     omega (
       arith,
       (bounded c.requires.0).limits,
       those_most c.loop-b.b (chosen c.args.image.now c.args.s c.args.g),
+      test_small c.tagged_in.result,
+      c.from-n.ensures,
     )
 
 pub overflow_add-b : goal.overflow_add-b
@@ -53,7 +52,7 @@ unfolding base size
 loop-b-preserved c =
     let seen = view_at c.args.s c.args.image.now Tags c.loop-b.b (omega arith) in
     let one = one_more c.loop-b.b (chosen c.args.image.now c.args.s c.args.g) c.loop-b.invariant.1
-    (c.tagged_in-chosen.ensures ∙ ap (tagged_in c.args.g) (sym seen)) c.counted-n.ensures in (
+    (c.tagged_in.ensures ∙ ap (tagged_in c.args.g) (sym seen)) c.from-n.ensures in (
       c.next_tagged-b-in-loop-b.ensures.1,
       one ∙ untagged_passed c.args.image.now c.args.s c.args.g _
           c.next_tagged-b-in-loop-b.result c.next_tagged-b-in-loop-b.ensures.0 c.next_tagged-b-in-loop-b.ensures.1

@@ -1,5 +1,5 @@
 -- `fill_header` meets its contract: at i the bytes from 1 to i - 1 are stored.
-use mathlib.Core.Path.{◌≡◌, refl, sym, ap}
+use mathlib.Core.Path.{refl, ap}
 use native.Mathlib.Omega.{arith}
 use Rattle.boards.specs.Lists.{span}
 use Rattle.protocol.specs.Image.{total}
@@ -11,7 +11,7 @@ use Rattle.format.proofs.fill_header.Goals as goal
 
 pub loop-i-init : goal.loop-i-init
 unfolding span
-loop-i-init c = (omega arith, omega arith, refl, makes_none _ _)
+loop-i-init c = (refl, makes_none _ _)
 
 pub store-left-requires : goal.store-left-requires
 unfolding total
@@ -20,12 +20,6 @@ store-left-requires c = omega arith
 pub loop-i-preserved : goal.loop-i-preserved
 loop-i-preserved c =
     let round =
-    filled_more (header_store c.args.s) 1 c.loop-i.i (omega arith)
-    (ap (one c.loop-i.i) c.header_byte-byte.ensures)
-    c.loop-i.invariant.3 c.store-left.ensures in
-    (omega arith, omega arith, makes_length round, round)
-
-pub returns : goal.returns
-returns c =
-    let done : 9 ≡ c.loop-i.i = omega arith in
-    rw (sym done) at c.loop-i.invariant.3
+    filled_more (header_store c.args.s) 1 c.loop-i.i (omega arith) (ap (one c.loop-i.i) c.header_byte.ensures)
+    c.loop-i.invariant.1 c.store-left.ensures in
+    (makes_length round, round)

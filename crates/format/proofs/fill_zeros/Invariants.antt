@@ -1,4 +1,4 @@
-use Prim.Native.Nat.{◌-◌, ◌≤◌}
+use Prim.Native.Nat.{◌-◌}
 use mathlib.Core.Path.{◌≡◌}
 use lib.ListN.{length}
 use Rattle.boards.specs.Lists.{span}
@@ -8,10 +8,5 @@ use Rattle.format.proofs.fill_zeros.Given as goal
 
 abbrev pub invariant-loop-i : goal.invariant-loop-i
 invariant-loop-i l =
-    (9 ≤ l.i)
-    × (l.i ≤ length l.initial.image)
-    × (length l.image ≡ length l.initial.image)
+    (length l.image ≡ length l.initial.image)
     × Makes (span zero_store 9 (l.i - 9)) l.initial.left l.initial.image l.left l.image
-
-abbrev pub decreases-loop-i : goal.decreases-loop-i
-decreases-loop-i l = length l.initial.image - l.i

@@ -1,12 +1,7 @@
--- `fault_search` meets its contract.
-use mathlib.Core.Path.{subst}
+-- `fault_search` meets its contract: a fault group is a commit group along the columns.
 use Rattle.boards.specs.Boards.{fault_group}
-use Rattle.boards.specs.Rows.{turned}
-use Rattle.groups.specs.Search.{Searched}
 use Rattle.groups.proofs.fault_search.Goals as goal
 
 pub returns : goal.returns
-unfolding turned fault_group
-returns c =
-    subst (λ g. Searched c.args.rows g c.conclude.result) c.gather-progress.ensures.0
-    c.conclude.ensures
+unfolding fault_group
+returns c = c.search.ensures

@@ -6,7 +6,7 @@ use Rattle.groups.proofs.gather.Given as goal
 
 abbrev pub invariant-loop-progress : goal.invariant-loop-progress
 invariant-loop-progress l =
-    let d = followed l.rows l.back in
+    let d = followed l.rows l.along in
     PassInvariant d l.progress.members l.progress
     × ((n : ℕ) × (n ≤ l.progress.count) × (l.progress.members ≡ passes d n (single l.i)))
 

@@ -1,25 +1,26 @@
--- `pairs` meets its contract: the whole is pairs of digits exactly if what follows the pairs passed is.
-use mathlib.Core.Path.{refl, sym, ◌∙◌}
+-- `pairs` meets its contract: an even length, and each chunk is a pair of digits.
+use mathlib.Core.Path.{sym, ◌∙◌}
 use native.Mathlib.Omega.{arith}
-use Rattle.hexadecimal.proofs.Laws.{pairs_high, pairs_low, pairs_more, pairs_end}
+use Prim.Native.Nat.{◌/◌}
+use lib.ListN.{length}
+use borrow.Author.Tests.{eqb-true, eqb-false}
+use Rattle.std.proofs.Common.{rules, tests}
+use Rattle.std.specs.Simd.{first_chunks}
+use Rattle.std.proofs.lemmas.Iterator.{YieldsList-from_slice}
+use Rattle.std.proofs.lemmas.Iterator.Search.{all_from_yields_List}
+use Rattle.hexadecimal.proofs.Laws.{is_pair, pairs_even, pairs_odd}
 use Rattle.hexadecimal.proofs.pairs.Goals as goal
 
-pub loop-i-init : goal.loop-i-init
-loop-i-init c = (omega arith, refl)
+pub returns-then-is_empty : goal.returns-then-is_empty
+returns-then-is_empty c =
+    let s = c.args.s.now in
+    let none = eqb-true _ 0 (sym c.is_empty.ensures ∙ c.if-is_empty.true) in
+    all_from_yields_List is_pair _ _ c.all.result c.all.ensures.ran
+    (YieldsList-from_slice (first_chunks 2 (length s / 2) s) cc) (λ x b q k. search (rules, tests))
+    ∙ pairs_even s (length s / 2) (omega (arith, none, c.as_chunks.ensures.back_len))
 
-pub returns-then-digit-gt15 : goal.returns-then-digit-gt15
-returns-then-digit-gt15 c =
-    sym (pairs_high c.args.s.now c.loop-i.i (omega arith) (omega arith)) ∙ c.loop-i.invariant.1
-
-pub returns-then-digit-gt15-2 : goal.returns-then-digit-gt15-2
-returns-then-digit-gt15-2 c =
-    sym (pairs_low c.args.s.now c.loop-i.i (omega arith) (omega arith)) ∙ c.loop-i.invariant.1
-
-pub loop-i-preserved : goal.loop-i-preserved
-loop-i-preserved c =
-    let next = pairs_more c.args.s.now c.loop-i.i (omega arith) (omega arith) (omega arith) in
-    (omega arith, sym next ∙ c.loop-i.invariant.1)
-
-pub returns : goal.returns
-returns c =
-    sym (pairs_end c.args.s.now c.loop-i.i (omega arith) (omega arith)) ∙ c.loop-i.invariant.1
+pub returns-else-is_empty : goal.returns-else-is_empty
+returns-else-is_empty c =
+    let s = c.args.s.now in
+    let one = eqb-false _ 0 (sym c.is_empty.ensures ∙ c.if-is_empty.false) in
+    c.if-is_empty.false ∙ sym (pairs_odd s (length s / 2) (omega (arith, one, c.as_chunks.ensures.back_len)))

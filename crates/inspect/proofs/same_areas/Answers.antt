@@ -5,31 +5,30 @@ use Rattle.layout.proofs.Laws.{bounded}
 use Rattle.inspect.proofs.Laws.{area_ends, bank_other, bank_same}
 use Rattle.inspect.proofs.same_areas.Goals as goal
 
-pub overflow_mul-cells : goal.overflow_mul-cells
-overflow_mul-cells c = omega (arith, bounded c.requires.0)
+pub overflow_mul-s : goal.overflow_mul-s
+overflow_mul-s c = omega (arith, bounded c.requires.0)
 
 pub same_bytes-requires : goal.same_bytes-requires
 unfolding size
-same_bytes-requires c = (
-  omega (arith, area_ends _ Recovery c.recovery_at-bank.ensures c.requires.1),
-  omega (arith, area_ends _ Recovery c.recovery_at-bank.ensures c.requires.2),
-)
+same_bytes-requires c =
+    let ends = area_ends c.args.s Recovery c.recovery_at.ensures c.requires.1 c.requires.2 in
+    (omega (arith, ends), omega (arith, ends))
 
-pub returns-then-not-same_bytes : goal.returns-then-not-same_bytes
-returns-then-not-same_bytes c =
-    bank_other _ _ _ c.recovery_at-bank.ensures c.same_bytes.ensures c.if-not-same_bytes.true
+pub overflow_mul-s-then-same_bytes : goal.overflow_mul-s-then-same_bytes
+overflow_mul-s-then-same_bytes c = omega (arith, bounded c.requires.0)
 
-pub overflow_mul-contexts : goal.overflow_mul-contexts
-overflow_mul-contexts c = omega (arith, bounded c.requires.0)
-
-pub same_bytes-requires-2 : goal.same_bytes-requires-2
+pub same_bytes-requires-then-same_bytes : goal.same_bytes-requires-then-same_bytes
 unfolding size
-same_bytes-requires-2 c = (
-  omega (arith, area_ends _ Checkpoint c.checkpoint_at-checkpoint.ensures c.requires.1),
-  omega (arith, area_ends _ Checkpoint c.checkpoint_at-checkpoint.ensures c.requires.2),
-)
+same_bytes-requires-then-same_bytes c =
+    let ends = area_ends c.args.s Checkpoint c.checkpoint_at.ensures c.requires.1 c.requires.2 in
+    (omega (arith, ends), omega (arith, ends))
 
-pub returns : goal.returns
-returns c =
-    bank_same _ _ _ c.recovery_at-bank.ensures c.same_bytes.ensures c.if-not-same_bytes.false
-    c.checkpoint_at-checkpoint.ensures c.same_bytes-2.ensures
+pub returns-then-same_bytes : goal.returns-then-same_bytes
+returns-then-same_bytes c =
+    bank_same c.args.s c.args.image.now c.args.other.now c.recovery_at.ensures c.same_bytes.ensures
+    c.if-same_bytes.true c.checkpoint_at.ensures c.same_bytes-then-same_bytes.ensures
+
+pub returns-else-same_bytes : goal.returns-else-same_bytes
+returns-else-same_bytes c =
+    bank_other c.args.s c.args.image.now c.args.other.now c.recovery_at.ensures c.same_bytes.ensures
+    c.if-same_bytes.false

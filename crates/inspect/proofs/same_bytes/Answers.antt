@@ -1,24 +1,10 @@
--- `inspect::same_bytes` meets its contract: the first i bytes are the same in both.
-use mathlib.Core.Path.{refl, sym}
-use native.Mathlib.Omega.{arith}
-use native.Mathlib.Numerals.{add-one}
-use borrow.Author.Tests.{eq-eqb, ne_eqb}
-use Rattle.boards.specs.Lists.{every}
-use Rattle.boards.proofs.Basics.{clash, refute, every_at, every_all, true_and}
+-- `inspect::same_bytes` meets its contract: the two parts are equal byte by byte.
+use Rattle.std.proofs.lemmas.Bool.Decides.{Decides-eqb}
+use Rattle.std.proofs.lemmas.Slice.Eq.{slice_eq-Decides}
+use Rattle.inspect.proofs.Laws.{bytes_agree}
 use Rattle.inspect.proofs.same_bytes.Goals as goal
 
-pub loop-i-init : goal.loop-i-init
-unfolding every
-loop-i-init c = (omega arith, refl)
-
-pub returns-then-image-at : goal.returns-then-image-at
-returns-then-image-at c =
-    sym (refute _ (λ h. clash (every_at _ _ h c.loop-i.i (omega arith)) (ne_eqb _ _ c.if-image-at.true)))
-
-pub loop-i-preserved : goal.loop-i-preserved
-unfolding every
-loop-i-preserved c =
-    (omega arith, rw add-one (true_and c.loop-i.invariant.1 (eq-eqb _ _ c.if-image-at.false)))
-
 pub returns : goal.returns
-returns c = sym (every_all _ _ (λ k l. every_at _ _ c.loop-i.invariant.1 k (omega arith)))
+returns c =
+    bytes_agree c.args.image.now c.args.other.now c.args.at c.args.n c.requires.0 c.requires.1
+    (slice_eq-Decides Decides-eqb _ _ _ c.eq.ensures)

@@ -1,26 +1,34 @@
--- `layout::mark_ok` meets its contract: the first i bytes are those of the mark.
-use mathlib.Core.Path.{refl, sym}
+-- `layout::mark_ok` meets its contract: the first four bytes are those of the mark, one by one.
+use Prim.Native.Nat.{ℕ, ◌≤◌}
+use mathlib.Core.Path.{◌≡◌, refl, ◌∙◌}
+use mathlib.Core.Bool.{Bool, true, false, ◌&&◌}
+use mathlib.Core.List.{List, [], ◌∷◌}
+use lib.Dec.{eqb}
+use lib.ListN.{length}
 use native.Mathlib.Omega.{arith}
-use native.Mathlib.Numerals.{add-one}
-use borrow.Author.Tests.{eq-eqb, ne_eqb}
+use Rattle.std.specs.List.{starts_with}
 use Rattle.boards.specs.Lists.{every}
-use Rattle.protocol.specs.Image.{mark}
-use Rattle.boards.proofs.Basics.{clash, refute, every_at, every_all, true_and}
+use Rattle.boards.proofs.Basics.{eqb_comm}
+use Rattle.protocol.specs.Image.{byte, mark}
 use Rattle.layout.proofs.mark_ok.Goals as goal
 
-pub loop-i-init : goal.loop-i-init
-unfolding every
-loop-i-init c = (omega arith, refl)
+four : (p q r s : Bool) → p && (q && (r && (s && true))) ≡ (((true && p) && q) && r) && s
+four false q r s = refl
+four true false r s = refl
+four true true false s = refl
+four true true true false = refl
+four true true true true = refl
 
-pub returns-then-image-i : goal.returns-then-image-i
-unfolding mark
-returns-then-image-i c =
-    sym (refute _ (λ h. clash (every_at 4 _ h c.loop-i.i (omega arith)) (ne_eqb _ _ c.if-image-i.true)))
-
-pub loop-i-preserved : goal.loop-i-preserved
-unfolding every mark
-loop-i-preserved c =
-    (omega arith, rw add-one (true_and c.loop-i.invariant.1 (eq-eqb _ _ c.if-image-i.false)))
+marked : (xs : List ℕ) → 4 ≤ length xs → starts_with eqb xs mark ≡ every 4 (λ i. eqb (byte xs i) (byte mark i))
+unfolding mark every
+marked [] l = absurd (omega arith)
+marked (a ∷ []) l = absurd (omega arith)
+marked (a ∷ b ∷ []) l = absurd (omega arith)
+marked (a ∷ b ∷ c ∷ []) l = absurd (omega arith)
+marked (a ∷ b ∷ c ∷ d ∷ rest) l =
+    rw (eqb_comm a 0x52, eqb_comm b 0x53, eqb_comm c 0x4D, eqb_comm d 0x31)
+    (four (eqb 0x52 a) (eqb 0x53 b) (eqb 0x4D c) (eqb 0x31 d))
 
 pub returns : goal.returns
-returns c = sym (every_all 4 _ (λ k l. every_at _ _ c.loop-i.invariant.1 k (omega arith)))
+unfolding mark
+returns c = c.starts_with.ensures.value ∙ marked c.args.image.now c.requires

@@ -1,4 +1,4 @@
-use Prim.Native.Nat.{◌-◌, ◌≤◌, ◌<◌, ℕ}
+use Prim.Native.Nat.{◌<◌, ℕ}
 use mathlib.Core.Path.{◌≡◌}
 use mathlib.Core.Bool.{false}
 use Rattle.boards.specs.Rows.{links_of}
@@ -7,7 +7,4 @@ use Rattle.order.proofs.next_component.Given as goal
 
 -- no board below i may go next
 abbrev pub invariant-loop-i : goal.invariant-loop-i
-invariant-loop-i l = (l.i ≤ 16) × ((j : ℕ) → j < l.i → ready (links_of l.rows) l.left j ≡ false)
-
-abbrev pub decreases-loop-i : goal.decreases-loop-i
-decreases-loop-i l = 16 - l.i
+invariant-loop-i l = (j : ℕ) → j < l.i → ready (links_of l.rows) l.left j ≡ false

@@ -6,5 +6,5 @@ use Rattle.player.proofs.format_anew.Goals as goal
 pub returns : goal.returns
 returns c =
     formatted_anew c.args.s c.args.area.now c.args.size c.args.k c.args.state (search rules)
-    c.clear.ensures
+    (c.fill.ensures.after (λ y e. e))
     c.format.ensures

@@ -14,15 +14,14 @@ read_decision-requires c = omega arith
 pub returns-in_default : goal.returns-in_default
 returns-in_default c = nothing_bad _ _ c.read_decision.ensures c.in_default.is
 
+pub overflow_cast-s : goal.overflow_cast-s
+overflow_cast-s c = omega (arith, (bounded c.requires.0).limits.most_boards)
+
 pub returns-then-g-eq0 : goal.returns-then-g-eq0
 returns-then-g-eq0 c =
-    group_bad _ _ c.read_decision.ensures c.in-Members.is (eq-eqb _ _ c.if-g-eq0.true)
+    let none = eq-eqb _ _ c.if-g-eq0.true in
+    none ∙ group_bad _ _ c.read_decision.ensures c.in-Some.is none
 
-pub overflow_cast-s : goal.overflow_cast-s
-overflow_cast-s c =
-    omega (arith, (bounded c.requires.0).limits.most_boards)
-
-pub returns : goal.returns
-returns c =
-    let some = ne_eqb _ _ c.if-g-eq0.false in
-    c.beyond.ensures ∙ group_bad _ _ c.read_decision.ensures c.in-Members.is some
+pub returns-else-g-eq0 : goal.returns-else-g-eq0
+returns-else-g-eq0 c =
+    c.beyond.ensures ∙ group_bad _ _ c.read_decision.ensures c.in-Some.is (ne_eqb _ _ c.if-g-eq0.false)

@@ -1,42 +1,23 @@
--- `bad_tags` meets its contract: none of the first b tags is above P.
-use Prim.Native.Nat.{◌+◌}
-use mathlib.Core.Path.{refl, sym, ◌∙◌, ap}
+-- `bad_tags` meets its contract: a tag above P among those of all blocks, which lie in the image.
+use Prim.Native.Nat.{◌<◌, ◌≤◌}
 use native.Mathlib.Omega.{arith}
-use native.Mathlib.Numerals.{add-one}
-use borrow.Author.Tests.{lt-ltb, le-ltb}
-use lib.Dec.{ltb}
-use Rattle.boards.specs.Lists.{any}
-use Rattle.boards.proofs.Basics.{any_none, none_any, some_any, false_or}
+use borrow.Author.Rules.{rules}
+use borrow.Author.Tests.{tests}
+use Rattle.std.proofs.lemmas.Iterator.{cases_from_any, YieldsList-from_slice}
+use Rattle.layout.proofs.Laws.{bounded}
 use Rattle.protocol.specs.Image.{total}
-use Rattle.protocol.specs.Calls.{bad_tags}
-use Rattle.layout.proofs.Laws.{bounded, tag_read}
+use Rattle.recovery.proofs.Laws.{tags_tested}
 use Rattle.recovery.proofs.bad_tags.Goals as goal
 
-pub loop-b-init : goal.loop-b-init
-unfolding any
-loop-b-init c = refl
+pub overflow_add-tags : goal.overflow_add-tags
+overflow_add-tags c = omega (arith, bounded c.requires.0)
 
-pub overflow_add-b : goal.overflow_add-b
-overflow_add-b c = omega (arith, bounded c.requires.0)
-
-pub bounds-image-b : goal.bounds-image-b
+pub slice_bounds-tags-end : goal.slice_bounds-tags-end
 unfolding total
-bounds-image-b c = omega arith
-
-pub overflow_cast-image : goal.overflow_cast-image
-overflow_cast-image c = omega (arith, c.shared_slice_known-1.given (12 + c.loop-b.b))
-
-pub returns-then-image-b : goal.returns-then-image-b
-unfolding bad_tags
-returns-then-image-b c =
-    let read = tag_read c.args.s _ c.loop-b.b (omega arith) in
-    sym (some_any _ _ c.loop-b.b (omega arith) (ap (ltb _) read ∙ lt-ltb _ _ c.if-image-b.true))
-
-pub loop-b-preserved : goal.loop-b-preserved
-unfolding any
-loop-b-preserved c = rw add-one (false_or c.loop-b.invariant (le-ltb _ _ c.if-image-b.false))
+slice_bounds-tags-end c = search rules
 
 pub returns : goal.returns
-unfolding bad_tags
 returns c =
-    sym (none_any _ _ (λ i l. ap (ltb _) (tag_read _ _ i l) ∙ any_none _ _ c.loop-b.invariant i (omega arith)))
+    tags_tested c.args.s c.args.image.now c.requires.1 _
+    (cases_from_any _ _ _ (λ t. c.args.s.boards < t) (λ t. t ≤ c.args.s.boards) c.any.ensures.ran
+    (YieldsList-from_slice _ cc) (λ x q k. search (rules, tests)) (λ x q k. search (rules, tests)))

@@ -13,4 +13,4 @@ returns-in_default c = nothing_first _ _ c.read_decision.ensures c.in_default.is
 
 pub returns : goal.returns
 returns c =
-    group_first _ _ c.read_decision.ensures c.in-Members.is c.complete.ensures
+    group_first _ _ c.read_decision.ensures c.in-Some.is c.complete.ensures

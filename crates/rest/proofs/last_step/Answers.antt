@@ -30,11 +30,6 @@ returns-then-not-goes_on c =
       fits = c.requires.1;
     }
 
-pub step-requires : goal.step-requires
-step-requires c =
-    let going = sym (c.goes_on.ensures c.args.area.now) ∙ c.if-not-goes_on.false in
-    (record { fits = c.requires.1; going = going; whole = c.requires.2 }, omega (arith, c.requires.3), omega arith)
-
 pub returns : goal.returns
 returns c =
     let going = sym (c.goes_on.ensures c.args.area.now) ∙ c.if-not-goes_on.false in

@@ -1,11 +1,8 @@
 -- `by_start` meets its contract: what its tests refuse decides nothing, else its group does, if it is complete.
-use mathlib.Core.Path.{◌≡◌, refl, ◌∙◌, ap}
+use mathlib.Core.Path.{◌∙◌}
 use native.Mathlib.Omega.{arith}
-use lib.ListN.{length}
-use Rattle.protocol.specs.Calls.{Start, refusal_at}
-use Rattle.entry.specs.Tested.{entry_says}
-use Rattle.entry.proofs.Laws.{small, if_taken, if_refused}
-use Rattle.commit.specs.Begin.{Offered}
+use Rattle.protocol.specs.Calls.{Start}
+use Rattle.entry.proofs.Laws.{small}
 use Rattle.commit.proofs.Laws.{started}
 use Rattle.page.proofs.Decisions.{start_gives}
 use Rattle.saving.proofs.Laws.{refused_nothing, acknowledged_decides}
@@ -13,51 +10,26 @@ use Rattle.saving.proofs.by_start.Goals as goal
 
 pub returns-in_default : goal.returns-in_default
 returns-in_default c =
-    let both = if_refused c.start_entry-entry.ensures (ap entry_says c.in_default.is) refl in
-    refused_nothing c.args.image.now c.args.state c.args.k (Start c.args.board c.args.context.now)
-    both.0 both.1
+    refused_nothing c.args.image.now c.args.state c.args.k (Start c.args.board c.args.context.now) _
+    c.in_default.ensures
 
 pub overflow_cast-i : goal.overflow_cast-i
-overflow_cast-i c =
-    -- what is known once the tests are passed
-    let known : (refusal_at c.args.image.now c.args.state (Start c.args.board c.args.context.now) ≡ 0)
-    × Offered c.args.image.now c.args.state c.args.board (length c.args.context.now) c.in-Taken.s =
-    if_taken c.start_entry-entry.ensures c.in-Taken.is in
-    omega (arith, small (known).1.entry)
+overflow_cast-i c = omega (arith, small c.in-Ok.ensures.known.entry)
 
 pub commit_closure-group-requires : goal.commit_closure-group-requires
-commit_closure-group-requires c =
-    -- what is known once the tests are passed
-    let known : (refusal_at c.args.image.now c.args.state (Start c.args.board c.args.context.now) ≡ 0)
-    × Offered c.args.image.now c.args.state c.args.board (length c.args.context.now) c.in-Taken.s =
-    if_taken c.start_entry-entry.ensures c.in-Taken.is in
-    small (known).1.entry
+commit_closure-group-requires c = small c.in-Ok.ensures.known.entry
 
 pub start-next-requires : goal.start-next-requires
-start-next-requires c =
-    -- what is known once the tests are passed
-    let known : (refusal_at c.args.image.now c.args.state (Start c.args.board c.args.context.now) ≡ 0)
-    × Offered c.args.image.now c.args.state c.args.board (length c.args.context.now) c.in-Taken.s =
-    if_taken c.start_entry-entry.ensures c.in-Taken.is in
-    small (known).1.entry
+start-next-requires c = small c.in-Ok.ensures.known.entry
 
 pub if_all_acknowledged-requires : goal.if_all_acknowledged-requires
 if_all_acknowledged-requires c =
-    -- what is known once the tests are passed
-    let known : (refusal_at c.args.image.now c.args.state (Start c.args.board c.args.context.now) ≡ 0)
-    × Offered c.args.image.now c.args.state c.args.board (length c.args.context.now) c.in-Taken.s =
-    if_taken c.start_entry-entry.ensures c.in-Taken.is in
-    let shaped = (known).1.entry.shaped in
-    (shaped.allowed_shape, shaped.long)
+    let shaped = c.in-Ok.ensures.known.entry.shaped in (shaped.allowed_shape, shaped.long)
 
 pub returns : goal.returns
 returns c =
-    -- what is known once the tests are passed
-    let known : (refusal_at c.args.image.now c.args.state (Start c.args.board c.args.context.now) ≡ 0)
-    × Offered c.args.image.now c.args.state c.args.board (length c.args.context.now) c.in-Taken.s =
-    if_taken c.start_entry-entry.ensures c.in-Taken.is in
-    let passed = known in
+    let passed = c.in-Ok.ensures in
     c.if_all_acknowledged.ensures
-    ∙ acknowledged_decides c.args.image.now c.args.state c.args.k (start_gives _ _ _ _ passed.0)
+    ∙ acknowledged_decides c.args.image.now c.args.state c.args.k (start_gives _ _ _ _ passed.none)
     (started c.args.state c.args.board c.start-next.ensures c.commit_closure-group.ensures.members)
-    passed.1.entry.shaped.shape
+    passed.known.entry.shaped.shape

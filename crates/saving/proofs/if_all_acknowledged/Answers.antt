@@ -2,7 +2,7 @@
 use mathlib.Core.Path.{◌∙◌, ap}
 use native.Mathlib.Omega.{arith}
 use Rattle.layout.proofs.Laws.{bounded}
-use Rattle.page.specs.declared.Decided.TheVariants.{Commit}
+use Rattle.std.specs.Prelude.{Some}
 use Rattle.saving.proofs.Laws.{not_all, too_short, all_of_them}
 use Rattle.saving.proofs.if_all_acknowledged.Goals as goal
 
@@ -18,6 +18,6 @@ returns-then-k-s c = too_short _ _ _ _ _ c.if-k-s.true
 
 pub returns : goal.returns
 returns c =
-    ap Commit c.saved-amounts.ensures
+    ap Some c.saved-amounts.ensures
     ∙ rw c.commit_of-open.ensures (all_of_them _ _ _ _ _ (rw c.commit_of-open.ensures at c.if-open-g.false)
     (omega (arith, c.if-k-s.false)))

@@ -6,31 +6,16 @@ use borrow.Author.Tests.{le-ltb, lt-ltb}
 use Rattle.page.specs.Page.{most_commits, full_status, added}
 use Rattle.sheet.proofs.add.Goals as goal
 
-pub returns-then-t-ge-MOST_COMMITS : goal.returns-then-t-ge-MOST_COMMITS
+pub returns-then-totals-gt-MOST_COMMITS : goal.returns-then-totals-gt-MOST_COMMITS
 unfolding full_status added
-returns-then-t-ge-MOST_COMMITS c =
-    rw (le-ltb c.args.t.commits most_commits (omega (arith, c.if-t-ge-MOST_COMMITS.true)), add-one c.args.t.commits) (
-      refl,
-      refl,
-      record {
-        commits = omega arith;
-        blocks = omega (arith, c.requires.0.blocks);
-        bytes =
-            omega (arith, c.requires.0.bytes);
-      },
-    )
+returns-then-totals-gt-MOST_COMMITS c =
+    let t = c.args.totals.now in
+    rw (le-ltb t.commits most_commits (omega (arith, c.if-totals-gt-MOST_COMMITS.true)), add-one t.commits)
+    (refl, refl, record { commits = omega arith; blocks = omega arith; bytes = omega arith })
 
 pub returns : goal.returns
 unfolding full_status added
 returns c =
-    let less = lt-ltb c.args.t.commits most_commits (omega (arith, c.if-t-ge-MOST_COMMITS.false)) in
-    rw (less, add-one c.args.t.commits) (
-      refl,
-      refl,
-      record {
-        commits = omega arith;
-        blocks = omega (arith, c.requires.0.blocks);
-        bytes =
-            omega (arith, c.requires.0.bytes);
-      },
-    )
+    let t = c.args.totals.now in
+    rw (lt-ltb t.commits most_commits (omega (arith, c.if-totals-gt-MOST_COMMITS.false)), add-one t.commits)
+    (refl, refl, record { commits = omega arith; blocks = omega arith; bytes = omega arith })

@@ -28,16 +28,16 @@ again image from to {j} apart l m n =
 
 pub loop-x-init : goal.loop-x-init
 unfolding copy_stores span
-loop-x-init c = (omega arith, refl, makes_none _ _)
+loop-x-init c = (refl, makes_none _ _)
 
 pub loop-x-preserved : goal.loop-x-preserved
 loop-x-preserved c =
     let round =
-    again c.args.part.now c.args.from c.args.to c.requires.apart (omega arith) c.loop-x.invariant.2
+    again c.args.part.now c.args.from c.args.to c.requires.apart (omega arith) c.loop-x.invariant.1
     c.store-b.ensures in
-    (omega arith, makes_length round, round)
+    (makes_length round, round)
 
 pub returns : goal.returns
 returns c =
     let done : c.loop-x.x ≡ c.args.count = omega arith in
-    rw (← done) c.loop-x.invariant.2
+    rw (← done) c.loop-x.invariant.1

@@ -1,4 +1,3 @@
-use Prim.Native.Nat.{◌-◌, ◌≤◌}
 use mathlib.Core.Path.{◌≡◌}
 use lib.ListN.{length}
 use Rattle.store.specs.Budget.{Makes}
@@ -7,8 +6,5 @@ use Rattle.store.proofs.copy.Given as goal
 
 abbrev pub invariant-loop-x : goal.invariant-loop-x
 invariant-loop-x l =
-    (l.x ≤ l.count) × (length l.part ≡ length l.initial.part)
+    (length l.part ≡ length l.initial.part)
     × Makes (copy_stores l.initial.part l.from l.to l.x) l.initial.b l.initial.part l.b l.part
-
-abbrev pub decreases-loop-x : goal.decreases-loop-x
-decreases-loop-x l = l.count - l.x

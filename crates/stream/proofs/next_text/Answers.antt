@@ -1,11 +1,10 @@
 -- `next_text` meets its contract: behind the last line nothing is held.
-use Rattle.std.proofs.Common.{refl}
-use Rattle.stream.proofs.Texts.{no_end, held_limit}
+use Rattle.stream.proofs.Texts.{held_limit}
 use Rattle.stream.proofs.next_text.Goals as goal
 
 pub returns-in-Limit : goal.returns-in-Limit
 returns-in-Limit g c =
     record {
-      within = λ end e. absurd (no_end end e refl);
+      within = λ end e. cc;
       over = held_limit c.args.held c.args.input.now c.in-Limit.is c.requires.1;
     }

@@ -3,6 +3,6 @@ use Rattle.std.proofs.Common.{refl}
 use Rattle.pieces.proofs.Pieces.{kept_first}
 use Rattle.stream.proofs.play.Goals as goal
 
-pub loop-turns-init : goal.loop-turns-init
-loop-turns-init g c =
+pub loop-init : goal.loop-init
+loop-init g c =
     (refl, refl, refl, kept_first c.args.input.now, c.requires.1)

@@ -1,9 +1,9 @@
--- All but "on" is zero.
-use Rattle.std.proofs.Common.{refl}
-use Rattle.volatile.specs.Volatile.{off}
-use Rattle.volatile.proofs.Records.{record_same}
+-- All is zero.
+use Rattle.std.proofs.Common.{arith}
+use Rattle.std.proofs.lemmas.Grind.{common_steps}
+use Rattle.volatile.specs.Volatile.{off, closed}
 use Rattle.volatile.proofs.Record.off.Goals as goal
 
 pub returns : goal.returns
-unfolding off
-returns c = record_same refl c.closed-commit.ensures
+unfolding off closed
+returns c = grind (arith, common_steps)

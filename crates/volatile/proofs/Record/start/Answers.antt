@@ -6,4 +6,4 @@ use Rattle.volatile.proofs.Record.start.Goals as goal
 
 pub returns : goal.returns
 unfolding start opened acknowledge
-returns c = record_same refl (commit_same c.with_board-own.ensures)
+returns c = record_same refl (commit_same c.with_board.ensures)

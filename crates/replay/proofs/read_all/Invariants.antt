@@ -1,9 +1,0 @@
--- `read_all` stays within the text, and ends: each turn reads more of it.
-use Rattle.std.proofs.Common.{length, ◌-◌, ◌≤◌, ◌≡◌}
-use Rattle.replay.proofs.read_all.Given as goal
-
-abbrev pub invariant-loop-n : goal.invariant-loop-n
-invariant-loop-n g l = (l.n ≤ length l.text) × (length l.text ≡ length l.initial.text)
-
-abbrev pub decreases-loop-n : goal.decreases-loop-n
-decreases-loop-n g l = length l.initial.text - l.n
