@@ -22,8 +22,8 @@ use Rattle.protocol.specs.Calls.{executed, filled}
 use Rattle.protocol.specs.declared.Shape.{Shape}
 use Rattle.protocol.specs.declared.Requester.{Requester}
 use Rattle.volatile.specs.declared.Record.{Record}
-use Rattle.protocol.specs.Answers.{reply_says}
-use Rattle.protocol.specs.Refusals.{number_of}
+use Rattle.protocol.specs.Replies.{reply_says}
+use Rattle.protocol.specs.Replies.{refusal_number}
 use Rattle.protocol.specs.declared.Refusal.{Refusal}
 use Rattle.protocol.specs.declared.Reply.{Reply}
 use Rattle.boards.proofs.Basics.{decide, length_span, span_same}
@@ -102,8 +102,8 @@ unfolding reply_of
 none_spent b next = rw (← sub_self b)
 
 module _ {image : List ℕ} {r : Record} (who : Requester) (a n : ℕ) (buffer : List ℕ) where
-  pub read_refused : (room : ℕ) (why : Refusal) {reply : Reply} → refusal_at image r (Read who a n room) ≡ number_of why
-      → reply_says reply ≡ refusal_of (number_of why) r → Answered (Read who a n room) image r buffer reply buffer
+  pub read_refused : (room : ℕ) (why : Refusal) {reply : Reply} → refusal_at image r (Read who a n room) ≡ refusal_number why
+      → reply_says reply ≡ refusal_of (refusal_number why) r → Answered (Read who a n room) image r buffer reply buffer
   unfolding refused record_refused filled
   read_refused room why h f =
       let request = Read who a n room in

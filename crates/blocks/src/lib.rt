@@ -1,6 +1,6 @@
 #![tactic(auto)]
 // The loops that a commit, a fault and a power-up are made of. Every store is made by `store`.
-ghost use Rattle.std.specs.Prelude.{◌≡◌, true, cond, ◌⊎◌, ◌≢◌, ℕ, ◌+◌, ◌≤◌, ◌<◌, length, get_or};
+ghost use Rattle.std.specs.Prelude.{◌≡◌, true, ◌⊎◌, ◌≢◌, ℕ, ◌+◌, ◌≤◌, ◌<◌, length, get_or};
 ghost use Rattle.boards.specs.Lists.{for};
 ghost use Rattle.protocol.specs.Image.{allowed, total, view};
 ghost use Rattle.protocol.specs.Calls.{context_saved, completing};
@@ -14,21 +14,18 @@ use layout::{DECISION, TAGS, current_at, tentative_at};
 use protocol::Shape;
 use store::{Budget, copy_at, store};
 
-// 0 for the bank at hand, the distance for the other one.
-fn offset(here: bool, distance: usize) -> usize
-    ensures { result ≡ cond here 0 distance }
-{
-    if here {
-        return 0;
-    }
-    distance
+// Which way blocks are copied: to the recovery bank, which a save does, or back from it.
+#[derive(Clone, Copy, Debug, PartialEq, Eq)]
+pub enum Copying {
+    Save,
+    Restore,
 }
 
 // One block, if its tag names a member of g: its bytes from one bank to the other, then its tag 0.
 // The part of the image from the block on is handed to the copier.
-fn copy_block(image: &mut [u8], s: Shape, g: u16, save: bool, b: usize, k: Budget) -> Budget
+fn copy_block(image: &mut [u8], s: Shape, g: u16, how: Copying, b: usize, k: Budget) -> Budget
     requires { (allowed s ≡ true) × (length image.old ≡ total s) × (b < s.blocks) }
-    ensures { Puts s (block_puts s (view s image.old) g save b) k
+    ensures { Puts s (block_puts s (view s image.old) g how b) k
         image.old result image.new }
 {
     let tag = image[TAGS + b];
@@ -38,19 +35,20 @@ fn copy_block(image: &mut [u8], s: Shape, g: u16, save: bool, b: usize, k: Budge
     let size = s.size;
     let cells = s.blocks * size;
     let at = current_at(s) + b * size;
-    let from = offset(save, cells);
-    let to = offset(!save, cells);
+    let (from, to) = match how {
+        Copying::Save => (0, cells),
+        Copying::Restore => (cells, 0),
+    };
     let copied = copy_at(image, at, from, to, size, k);
     store(image, TAGS + b, 0, copied)
 }
 
-// Whether the eight bytes from an offset on are all 0.
-fn eight_zeros(image: &[u8], at: usize) -> bool
-    requires { at + 8 ≤ length image.now }
-    ensures { result ≡ true → (x : ℕ) → x < 8 → get_or image.now (at + x) 0 ≡ 0 }
+// Whether eight tags are all 0.
+fn eight_zeros(tags: &[u8; 8]) -> bool
+    ensures { result ≡ true → (x : ℕ) → x < 8 → get_or tags.now x 0 ≡ 0 }
 {
-    let low = image[at] | image[at + 1] | image[at + 2] | image[at + 3];
-    let high = image[at + 4] | image[at + 5] | image[at + 6] | image[at + 7];
+    let low = tags[0] | tags[1] | tags[2] | tags[3];
+    let high = tags[4] | tags[5] | tags[6] | tags[7];
     low | high == 0
 }
 
@@ -60,14 +58,13 @@ fn past_eights(image: &[u8], s: Shape, b: usize) -> usize
     ensures { (b ≤ result) × (result ≤ s.blocks)
         × ((j : ℕ) → b ≤ j → j < result → get_or image.now (tags_at + j) 0 ≡ 0) }
 {
-    let mut i = b;
-    while i + 8 <= s.blocks {
-        if !eight_zeros(image, TAGS + i) {
-            return i;
+    let (eights, _) = image[TAGS + b..TAGS + s.blocks].as_chunks::<8>();
+    for (i, tags) in eights.iter().enumerate() {
+        if !eight_zeros(tags) {
+            return b + 8 * i;
         }
-        i += 8;
     }
-    i
+    b + 8 * eights.len()
 }
 
 // The first block from b on that has an active writer, or B.
@@ -86,15 +83,15 @@ pub fn next_tagged(image: &[u8], s: Shape, b: usize) -> usize
 }
 
 // All blocks, ascending; those without a writer are passed over.
-pub fn copy_blocks(image: &mut [u8], s: Shape, g: u16, save: bool, k: Budget) -> Budget
+pub fn copy_blocks(image: &mut [u8], s: Shape, g: u16, how: Copying, k: Budget) -> Budget
     requires { (allowed s ≡ true) × (length image.old ≡ total s) × WellBudget k }
-    ensures { Puts s (blocks_puts s (view s image.old) g save) k
+    ensures { Puts s (blocks_puts s (view s image.old) g how) k
         image.old result image.new }
 {
     let mut left = k;
     let mut b = next_tagged(image, s, 0);
     while b < s.blocks {
-        left = copy_block(image, s, g, save, b, left);
+        left = copy_block(image, s, g, how, b, left);
         b = next_tagged(image, s, b + 1);
     }
     left
@@ -134,7 +131,7 @@ pub fn complete(image: &mut [u8], s: Shape, g: u16, k: Budget) -> Budget
     ensures { Puts s (completing s (view s image.old) g) k
         image.old result image.new }
 {
-    let saved = copy_blocks(image, s, g, true, k);
+    let saved = copy_blocks(image, s, g, Copying::Save, k);
     let kept = copy_contexts(image, s, g, saved);
     store(image, DECISION, 0, kept)
 }

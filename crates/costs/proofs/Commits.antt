@@ -18,7 +18,7 @@ use Rattle.protocol.specs.Calls.{Start, Test, test, first, refusals, entry_tests
 use Rattle.protocol.specs.Calls.{refused as refuse, refusal_at, perform}
 use Rattle.protocol.specs.Claim.{Call}
 use Rattle.protocol.specs.declared.Shape.{Shape}
-use Rattle.protocol.specs.Answers.{Answer}
+use Rattle.protocol.specs.Replies.{Answer}
 use Rattle.protocol.proofs.Outcomes.{turned_down}
 use Rattle.protocol.proofs.Refusals.{first_held, first_passed, first_stops, entry_goes_on}
 use Rattle.costs.specs.Forecasts.{commit_cost, commit_forecast}

@@ -9,7 +9,7 @@ use Rattle.protocol.specs.Image.{shape_of}
 use Rattle.protocol.specs.Calls.{Request, Read, Write, Start, Acknowledge, Fault, PowerUp, perform}
 use Rattle.protocol.specs.Claim.{Call}
 use Rattle.protocol.specs.declared.Shape.{Shape}
-use Rattle.protocol.specs.Answers.{Answer}
+use Rattle.protocol.specs.Replies.{Answer}
 use Rattle.costs.specs.Forecasts.{Forecast, those, commit_forecast, fault_forecast}
 
 abbrev pub answer_of : List ℕ → Record → Request → ℕ → Answer

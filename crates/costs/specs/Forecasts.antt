@@ -6,7 +6,7 @@ use Rattle.volatile.specs.Volatile.{depends, engaged}
 use Rattle.volatile.specs.declared.Record.{Record}
 use Rattle.protocol.specs.Image.{Memory, Tags, shape_of, view}
 use Rattle.protocol.specs.Calls.{Test, test, first, entry_tests}
-use Rattle.protocol.specs.Refusals.{number_of}
+use Rattle.protocol.specs.Replies.{refusal_number}
 use Rattle.protocol.specs.declared.Refusal.{Refusal}
 use Rattle.protocol.specs.declared.Shape.{Shape}
 use Rattle.costs.specs.declared.Forecast.{Forecast as Taken}
@@ -47,7 +47,7 @@ refused n = record { status = n; group = 0; stores = 0 }
 -- what the code's forecast is in these numbers
 abbrev pub forecast_says : Result Taken Refusal → Forecast
 forecast_says (Ok f) = record { status = 0; group = f.group; stores = f.stores }
-forecast_says (Err e) = refused (number_of e)
+forecast_says (Err e) = refused (refusal_number e)
 
 -- what is answered if n is the number of the refusal, 0 for none
 unfoldable pub answered : ℕ → ℕ → ℕ → Forecast

@@ -27,7 +27,7 @@ use Rattle.store.specs.Runs.{put_stores}
 use Rattle.store.specs.declared.Budget.{Budget}
 use Rattle.store.specs.Puts.{Puts}
 use Rattle.store.specs.Promise.{reply_of}
-use Rattle.protocol.specs.Answers.{reply_says}
+use Rattle.protocol.specs.Replies.{reply_says}
 use Rattle.protocol.specs.declared.Reply.{Reply}
 use Rattle.store.proofs.Laws.{well_start, makes_refused, makes_well, makes_length, makes_then}
 use Rattle.store.proofs.Areas.{placing_stores}

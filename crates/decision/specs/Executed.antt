@@ -2,7 +2,7 @@
 use Rattle.std.specs.Prelude.{ℕ, ◌≡◌, List}
 use Rattle.protocol.specs.Calls.{Plan, carried_out}
 use Rattle.protocol.specs.declared.Shape.{Shape}
-use Rattle.protocol.specs.Answers.{reply_says}
+use Rattle.protocol.specs.Replies.{reply_says}
 use Rattle.protocol.specs.declared.Reply.{Reply}
 
 -- the answer with the next record, and every byte of the image afterwards

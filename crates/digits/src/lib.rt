@@ -66,8 +66,7 @@ impl Output<'_> {
         requires { HasRoom 2 self.old }
         ensures { Writes (byte_text byte) self.old self.new }
     {
-        self.put(hexadecimal(byte / 16));
-        self.put(hexadecimal(byte % 16));
+        self.put_text(&[hexadecimal(byte / 16), hexadecimal(byte % 16)]);
     }
 
     // A group: four hexadecimal digits. Most are empty.

@@ -11,8 +11,8 @@ use Rattle.protocol.specs.Calls.{Request, Test, first, entry_tests, refusal_at, 
 use Rattle.protocol.specs.declared.Shape.{Shape}
 use Rattle.protocol.specs.declared.Requester.{Requester}
 use Rattle.volatile.specs.declared.Record.{Record}
-use Rattle.protocol.specs.Answers.{reply_says}
-use Rattle.protocol.specs.Refusals.{number_of}
+use Rattle.protocol.specs.Replies.{reply_says}
+use Rattle.protocol.specs.Replies.{refusal_number}
 use Rattle.protocol.specs.declared.Refusal.{Refusal}
 use Rattle.protocol.specs.declared.Reply.{Reply}
 use Rattle.store.specs.Promise.{Performed}
@@ -59,17 +59,17 @@ small h = board_small (bounded h.shaped.allowed_shape).limits h.board
 
 -- a refusal that `?` handed on
 pub handed_on : {T : Type 0} {n : ℕ} (Known : T → Type 0) (r : Result T Refusal) (why : Refusal)
-    → IsErrAnd r (λ e. e ≡ why) → n ≡ number_of why → Tested n Known r
+    → IsErrAnd r (λ e. e ≡ why) → n ≡ refusal_number why → Tested n Known r
 handed_on Known (Ok t) why h e = elim h [ ]
-handed_on Known (Err x) why h e = e ∙ sym (ap number_of h)
+handed_on Known (Err x) why h e = e ∙ sym (ap refusal_number h)
 
-module _ (ts us : List Test) (why : Refusal) (e : first ts ≡ number_of why) where
+module _ (ts us : List Test) (why : Refusal) (e : first ts ≡ refusal_number why) where
   -- the first of a call's tests refuse it, whatever follows them
-  pub refused_first : first (ts ++ us) ≡ number_of why
+  pub refused_first : first (ts ++ us) ≡ refusal_number why
   refused_first = first_stops ts us (λ z. refusal_not_zero why (sym e ∙ z)) ∙ e
 
   pub call_refused_first : {image : List ℕ} (state : Record) (request : Request) {k : ℕ} {next : Record}
       {reply : Reply} → refusal_at image state request ≡ first (ts ++ us)
-      → reply_says reply ≡ refusal_of (number_of why) next → next ≡ record_refused state request
+      → reply_says reply ≡ refusal_of (refusal_number why) next → next ≡ record_refused state request
       → Performed request k image state reply image
   call_refused_first state request same g h = turned state request why (same ∙ refused_first) h g

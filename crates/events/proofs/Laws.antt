@@ -3,7 +3,8 @@ use Prim.Native.Nat.{ℕ, zero, suc, ◌+◌, ◌-◌, ◌<◌, ◌≤◌}
 use mathlib.Core.Path.{◌≡◌, refl, sym, ◌∙◌, ap, subst}
 use mathlib.Core.Bool.{Bool, true, false, cond}
 use mathlib.Core.List.{List, [], ◌∷◌}
-use Rattle.std.specs.Prelude.{Option, None, Some}
+use Rattle.std.specs.Prelude.{Option, None, Some, Result, Ok, Err}
+use Rattle.protocol.specs.declared.Refusal.{Refusal}
 use lib.Dec.{eqb}
 use lib.ListN.{length, get_or, take, drop}
 use lib.Seq.{take-append_seam}
@@ -140,7 +141,7 @@ module _ (s : List ℕ) {e : Listing} (letter : letter_of (before s) ≡ Some e)
     none_made : (j : ℕ) → j < m → number_of (field (suc j) s) ≡ None → line ≡ unreadable
     none_made j l w = fields_other (entry.read s ∙ rw (← count) (numbered_none m s _ j l w))
 
-    made : (v : Values) → Numbered s m (Some v) → by_letter e.letter s ≡ rest_of e s (values_of v)
+    made : (v : Values) → Numbered s m (Ok v) → by_letter e.letter s ≡ rest_of e s (values_of v)
     made v all =
         let fits : m ≤ 4 = omega (arith, fits_in, entry.few) in
         let read = numbered_all m s (values_of v) (rest_of e s) fits all.1 in
@@ -151,11 +152,11 @@ module _ (s : List ℕ) {e : Listing} (letter : letter_of (before s) ≡ Some e)
     all_of : n ≡ count_of e
     all_of = sym (if_false _ _ kind)
 
-    pub numbers_none : {r : Option Values} → r ≡ None → Numbered s n r → line ≡ unreadable
-    numbers_none is h = let w = subst (Numbered s n) is h in none_made all_of w.0 w.1 w.2
+    pub numbers_none : {r : Result Values Refusal} {why : Refusal} → r ≡ Err why → Numbered s n r → line ≡ unreadable
+    numbers_none is h = let w = (subst (Numbered s n) is h).1 in none_made all_of w.0 w.1 w.2
 
-    module _ {r : Option Values} {v : Values} (is : r ≡ Some v) (h : Numbered s n r) where
-      numbers : Numbered s n (Some v)
+    module _ {r : Result Values Refusal} {v : Values} (is : r ≡ Ok v) (h : Numbered s n r) where
+      numbers : Numbered s n (Ok v)
       numbers = subst (Numbered s n) is h
 
       pub numbers_more : v.end < length s → line ≡ unreadable
@@ -172,11 +173,12 @@ module _ (s : List ℕ) {e : Listing} (letter : letter_of (before s) ≡ Some e)
     but_last : n - 1 ≡ count_of e
     but_last = sym (if_true _ _ kind)
 
-    pub bytes_none : {r : Option Values} → r ≡ None → Numbered s (n - 1) r → line ≡ unreadable
-    bytes_none is h = let w = subst (Numbered s (n - 1)) is h in none_made but_last w.0 w.1 w.2
+    pub bytes_none : {r : Result Values Refusal} {why : Refusal} → r ≡ Err why → Numbered s (n - 1) r
+        → line ≡ unreadable
+    bytes_none is h = let w = (subst (Numbered s (n - 1)) is h).1 in none_made but_last w.0 w.1 w.2
 
-    module _ {r : Option Values} {v : Values} (is : r ≡ Some v) (h : Numbered s (n - 1) r) where
-      before_bytes : Numbered s (n - 1) (Some v)
+    module _ {r : Result Values Refusal} {v : Values} (is : r ≡ Ok v) (h : Numbered s (n - 1) r) where
+      before_bytes : Numbered s (n - 1) (Ok v)
       before_bytes = subst (Numbered s (n - 1)) is h
 
       pub bytes_missing : length s ≤ v.end → line ≡ unreadable

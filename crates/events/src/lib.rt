@@ -54,7 +54,7 @@ fn take_numbers(line: &[u8], listing: Listing) -> Result<Event, Refusal>
     requires { (letter_of (before line.now) ≡ Some listing) × (bytes_last listing.letter ≡ false) }
     ensures { ((b : List ℕ) → meant result b ≡ with_letter (Some listing) line.now) × (counted result ≤ 80) }
 {
-    let Some(values) = read_numbers(line, listing.commas as usize) else {
+    let Ok(values) = read_numbers(line, listing.commas as usize) else {
         return Err(Refusal::Unreadable);
     };
     if values.end < line.len() {
@@ -84,7 +84,7 @@ fn take_bytes(line: &[u8], listing: Listing, buffer: &mut [u8]) -> Result<Event,
         × (length line.now ≤ 160) × (80 ≤ length buffer.old) }
     ensures { (meant result buffer.new ≡ with_letter (Some listing) line.now) × (counted result ≤ 80) }
 {
-    let Some(values) = read_numbers(line, (listing.commas - 1) as usize) else {
+    let Ok(values) = read_numbers(line, (listing.commas - 1) as usize) else {
         return Err(Refusal::Unreadable);
     };
     let end = values.end;

@@ -8,7 +8,7 @@ use Rattle.protocol.specs.Image.{Recovery, Current, shape_of, view}
 use Rattle.volatile.specs.Volatile.{depends, clear}
 use Rattle.protocol.specs.Calls.{Fault, refusal_at, blocks_copied, plan}
 use Rattle.protocol.specs.declared.Shape.{Shape}
-use Rattle.protocol.specs.Answers.{reply_says}
+use Rattle.protocol.specs.Replies.{reply_says}
 use Rattle.protocol.specs.declared.Reply.{Reply}
 use Rattle.volatile.specs.declared.Record.{Record}
 use Rattle.store.specs.Budget.{start}

@@ -3,7 +3,7 @@
 ghost use Rattle.protocol.specs.Calls.{Fault};
 ghost use Rattle.store.specs.Promise.{Performed};
 
-use blocks::copy_blocks;
+use blocks::{Copying, copy_blocks};
 use entry::enter;
 use groups::fault_closure;
 use protocol::Reply;
@@ -23,7 +23,7 @@ pub fn fault(image: &mut [u8], state: Record, board: usize, k: usize) -> Reply
     let group = fault_closure(rows, board as u8);
     let g = group.members;
     let whole = Budget::new(k);
-    let left = copy_blocks(image, s, g, false, whole);
+    let left = copy_blocks(image, s, g, Copying::Restore, whole);
     let next = state.clear(group);
     finish(k, left, false, g, next)
 }

@@ -91,6 +91,8 @@ fed w input {end} {p} {area} {out} {after} {held} long l played k =
       kept =
           kept_on k (omega (arith, length-drop p.read (take end input), length-take-le end input l))
           (unbroken_so p.stop v rest p.written out why);
+      read = played.read;
+      keeps = k;
       written = played.written;
       fits = played.fits;
     }

@@ -1,7 +1,7 @@
 -- What feeding a task a piece of input promises.
 use Rattle.std.specs.Prelude.{ℕ, ◌+◌, ◌≤◌, ◌<◌, ◌≡◌, true, false, List, ◌++◌, length, take, drop}
 use Rattle.text.specs.Whole.{lines, output_by}
-use Rattle.pieces.specs.Pieces.{Unbroken, Broken, Output, Kept}
+use Rattle.pieces.specs.Pieces.{Unbroken, Broken, Output, Kept, Keeps}
 use Rattle.pieces.specs.declared.Stop.{Stop}
 use Rattle.pieces.specs.declared.Stop.TheVariants.{Unfinished, Full, Limit}
 use Rattle.reports.specs.Reports.{State, reporting, goes}
@@ -29,7 +29,8 @@ pub record Progresses (w : State) (piece : List ℕ) (r : Progress) (area out : 
   pub fits : Fits r.task
 
 -- The state w is fed a text. Whatever follows the text, the output of the whole is what was written and what the kept
--- characters and what follows give; the lines stopped for the reason told.
+-- characters and what follows give; the lines stopped for the reason told; what is kept is of the text behind what was
+-- read of it.
 pub record Feeds (w : State) (text : List ℕ) (r : Fed) (input area out : List ℕ) : Type 0 where
   pub output : (more : List ℕ) →
       output_by reporting w (lines (text ++ more))
@@ -37,5 +38,7 @@ pub record Feeds (w : State) (text : List ℕ) (r : Fed) (input area out : List 
       ++ output_by reporting (state_of r.progress.task area) (lines (take r.held input ++ more))
   pub stops : Stops r.progress.stop (state_of r.progress.task area) (take r.held input) r.progress.written out
   pub kept : Kept r.progress.stop r.held input
+  pub read : r.progress.read ≤ length text
+  pub keeps : Keeps r.progress.stop (drop r.progress.read text) r.held input
   pub written : r.progress.written ≤ length out
   pub fits : Fits r.progress.task

@@ -1,5 +1,8 @@
 -- What reading the numbers of a line promises.
 use Rattle.std.specs.Prelude.{ℕ, zero, suc, ◌+◌, ◌≤◌, ◌<◌, ◌≡◌, List, [], ◌∷◌, length, get_or, drop, Option, None, Some}
+use Rattle.std.specs.Prelude.{Result, Ok, Err}
+use Rattle.protocol.specs.declared.Refusal.{Refusal}
+use Rattle.protocol.specs.declared.Refusal.TheVariants.{Unreadable}
 use Rattle.text.specs.Fields.{comma, after, field, commas, number_of}
 use Rattle.fields.specs.declared.Number.{Number}
 use Rattle.fields.specs.declared.Values.{Values}
@@ -24,8 +27,8 @@ pub record FieldEnds (s : List ℕ) (i end : ℕ) : Type 0 where
 abbrev pub values_of : Values → List ℕ
 values_of v = v.first ∷ v.second ∷ v.third ∷ v.fourth ∷ []
 
--- fields 1 to `due` are numbers, and field `due` ends at `v.end`; or one of them is none
-abbrev pub Numbered : List ℕ → ℕ → Option Values → Type 0
-Numbered s due (Some v) =
+-- fields 1 to `due` are numbers, and field `due` ends at `v.end`; or one of them is none, and the line is refused 6
+abbrev pub Numbered : List ℕ → ℕ → Result Values Refusal → Type 0
+Numbered s due (Ok v) =
     FieldEnds s due v.end × ((j : ℕ) → j < due → number_of (field (suc j) s) ≡ Some (get_or (values_of v) j 0))
-Numbered s due None = (j : ℕ) × (j < due) × (number_of (field (suc j) s) ≡ None)
+Numbered s due (Err why) = (why ≡ Unreadable) × ((j : ℕ) × (j < due) × (number_of (field (suc j) s) ≡ None))

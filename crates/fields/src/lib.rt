@@ -5,6 +5,7 @@ ghost use Rattle.text.specs.Fields.{until, before, number_from, number_of};
 ghost use Rattle.text.specs.Letters.{table, looked_up, letter_of};
 ghost use Rattle.fields.specs.Numbers.{measured, Numbered};
 
+use protocol::Refusal;
 use text::{Listing, TABLE};
 
 // A field read as a number, and how many characters it has.
@@ -89,7 +90,7 @@ pub fn read_number(s: &[u8]) -> Option<Number>
 }
 
 // The `due` fields behind a line's letter as numbers: each a number, then the rest.
-pub fn read_numbers(s: &[u8], due: usize) -> Option<Values>
+pub fn read_numbers(s: &[u8], due: usize) -> Result<Values, Refusal>
     requires { (length (before s.now) ≡ 1) × (due ≤ 4) }
     ensures { Numbered s.now due result }
 {
@@ -97,14 +98,16 @@ pub fn read_numbers(s: &[u8], due: usize) -> Option<Values>
     let mut end = 1;
     for i in 0..due {
         if end >= s.len() {
-            return None;
+            return Err(Refusal::Unreadable);
         }
         let from = end + 1;
-        let number = read_number(&s[from..])?;
+        let Some(number) = read_number(&s[from..]) else {
+            return Err(Refusal::Unreadable);
+        };
         values[i] = number.value;
         end = from + number.length;
     }
-    Some(Values {
+    Ok(Values {
         first: values[0],
         second: values[1],
         third: values[2],

@@ -16,7 +16,7 @@ use Rattle.protocol.specs.Image.{Memory, Tags, allowed, shape_of, view, base, si
 use Rattle.protocol.specs.Calls.{Test, first, entry_tests}
 use Rattle.protocol.specs.declared.Shape.{Shape}
 use Rattle.protocol.proofs.Bridge.{view_at}
-use Rattle.protocol.specs.Refusals.{number_of}
+use Rattle.protocol.specs.Replies.{refusal_number}
 use Rattle.protocol.specs.declared.Refusal.{Refusal}
 use Rattle.protocol.proofs.Refusals.{first_held, first_passed, entry_goes_on}
 use Rattle.protocol.proofs.Numbers.{refusal_not_zero}
@@ -97,8 +97,8 @@ module _ (image : List ℕ) (r : Record) (i : ℕ) (entered : first (entry_tests
 
 -- a forecast with these tests is refused, or answers the group and its cost
 module _ (ts : List Test) where
-  pub refused_so : (why : Refusal) (g c : ℕ) → first ts ≡ number_of why
-      → refused (number_of why) ≡ answered (first ts) g c
+  pub refused_so : (why : Refusal) (g c : ℕ) → first ts ≡ refusal_number why
+      → refused (refusal_number why) ≡ answered (first ts) g c
   refused_so why g c e = sym (rw e (answered_refused g c (refusal_not_zero why)))
 
   pub taken_so : (cost : Shape → Memory → ℕ → ℕ) {s : Shape} (image : List ℕ) {g group stores : ℕ} → first ts ≡ 0

@@ -13,11 +13,11 @@ use Rattle.volatile.specs.Volatile.{fresh}
 use Rattle.protocol.specs.Calls.{first, refused, format_tests, formatting, format}
 use Rattle.protocol.specs.declared.Shape.{Shape}
 use Rattle.volatile.specs.declared.Record.{Record}
-use Rattle.protocol.specs.Answers.{reply_says}
+use Rattle.protocol.specs.Replies.{reply_says}
 use Rattle.protocol.specs.declared.Reply.{Reply}
 use Rattle.store.specs.Budget.{Makes, one, start}
 use Rattle.store.specs.declared.Budget.{Budget}
-use Rattle.store.proofs.Laws.{makes_then}
+use Rattle.store.proofs.Laws.{makes_none, makes_then}
 use Rattle.boards.proofs.Basics.{span_append, span_more, span_same}
 use Rattle.store.specs.Promise.{Formatted, reply_of}
 use Rattle.protocol.specs.Calls.{refusal_of}
@@ -27,6 +27,11 @@ use Rattle.protocol.proofs.Format.{undecided}
 use Rattle.format.specs.Stores.{header_store, zero_store}
 
 -- ---- the stores
+
+-- none yet
+pub filled_none : (f : ℕ → Store) (a : ℕ) {b : Budget} {x : List ℕ} → Makes (span f a (a - a)) b x b x
+unfolding span
+filled_none f a {b} {x} = let none : a - a ≡ 0 = omega arith in rw none (makes_none b x)
 
 -- one byte more
 pub filled_more : (f : ℕ → Store) (a i : ℕ) {v : ℕ} {b r r' : Budget} {x y z : List ℕ} → a ≤ i → one i v ≡ f i →

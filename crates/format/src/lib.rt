@@ -1,13 +1,11 @@
 #![tactic(auto)]
 // Formatting: the public call that makes an image of a shape. Every store is made by `store`.
-ghost use Rattle.std.specs.Prelude.{◌≡◌, true, ◌-◌, ◌≤◌, length};
-ghost use Rattle.protocol.specs.Image.{allowed, total};
+ghost use Rattle.std.specs.Prelude.{◌≡◌, ℕ, true, ◌-◌, ◌<◌, ◌≤◌, length};
+ghost use Rattle.protocol.specs.Image.{Store, allowed, total};
 ghost use Rattle.protocol.specs.Calls.{formatting};
-ghost use Rattle.layout.specs.Headers.{decision_at};
-ghost use Rattle.store.specs.Budget.{Makes};
+ghost use Rattle.store.specs.Budget.{Makes, one};
 ghost use Rattle.store.specs.Promise.{Formatted};
 ghost use Rattle.boards.specs.Lists.{span};
-ghost use Rattle.format.specs.Stores.{header_store, zero_store};
 
 use layout::{DECISION, MARK, allowed, header_byte, total};
 use protocol::{Refusal, Reply, Shape};
@@ -15,27 +13,22 @@ use store::answers::{finish, refusal};
 use store::{Budget, store};
 use volatile::Record;
 
-// Bytes 1 to 8, ascending: the header's.
-fn fill_header(image: &mut [u8], s: Shape, k: Budget) -> Budget
-    requires { (allowed s ≡ true) × (length image.old ≡ total s) }
-    ensures { Makes (span (header_store s) 1 8) k image.old result image.new }
+// The bytes from `from` to the one before `to`, ascending: at each offset what `byte_at` answers.
+fn fill<F: Fn(usize) -> u8>(
+    image: &mut [u8],
+    from: usize,
+    to: usize,
+    byte_at: F,
+    k: Budget,
+) -> Budget
+    requires callable { F.IsAlwaysCallable byte_at }
+    requires within { (from ≤ to) × (to ≤ length image.old) }
+    ensures { (f : ℕ → Store) → ((i y : ℕ) → i < to → F.post byte_at i y → one i y ≡ f i)
+        → Makes (span f from (to - from)) k image.old result image.new }
 {
     let mut left = k;
-    for i in 1..DECISION {
-        left = store(image, i, header_byte(s, i), left);
-    }
-    left
-}
-
-// The bytes from 9 on: zeros.
-fn fill_zeros(image: &mut [u8], k: Budget) -> Budget
-    requires { decision_at ≤ length image.old }
-    ensures { Makes (span zero_store decision_at (length image.old - decision_at)) k
-        image.old result image.new }
-{
-    let mut left = k;
-    for i in DECISION..image.len() {
-        left = store(image, i, 0, left);
+    for i in from..to {
+        left = store(image, i, byte_at(i), left);
     }
     left
 }
@@ -46,8 +39,9 @@ fn lay_out(image: &mut [u8], s: Shape, k: Budget) -> Budget
     ensures { Makes (formatting s) k image.old result image.new }
 {
     let unmarked = store(image, 0, 0, k);
-    let named = fill_header(image, s, unmarked);
-    let filled = fill_zeros(image, named);
+    let named = fill(image, 1, DECISION, |i| header_byte(s, i), unmarked);
+    let end = image.len();
+    let filled = fill(image, DECISION, end, |_| 0, named);
     let first = MARK[0];
     store(image, 0, first, filled)
 }

@@ -3,7 +3,7 @@ use Rattle.std.specs.Prelude.{ℕ, ◌+◌, Bool, false, ◌&&◌, not, List, []
 use Rattle.boards.specs.Lists.{every}
 use Rattle.protocol.specs.Image.{Area, Memory, Recovery, Checkpoint, cells, contexts, byte, shape_of, in_order, view}
 use Rattle.protocol.specs.Calls.{Test, test, first}
-use Rattle.protocol.specs.Refusals.{number_of}
+use Rattle.protocol.specs.Replies.{refusal_number}
 use Rattle.protocol.specs.declared.Refusal.{Refusal}
 use Rattle.protocol.specs.declared.Shape.{Shape}
 
@@ -15,7 +15,7 @@ pub record Compared : Type 0 where
 -- what the code's answer is in these numbers
 abbrev pub compared_says : Result Bool Refusal → Compared
 compared_says (Ok b) = record { status = 0; same = b }
-compared_says (Err e) = record { status = number_of e; same = false }
+compared_says (Err e) = record { status = refusal_number e; same = false }
 
 -- the first image, then the second
 unfoldable pub compare_tests : List ℕ → List ℕ → List Test

@@ -3,7 +3,7 @@
 ghost use Rattle.std.specs.Prelude.{◌≡◌, true, [], ◌+◌, ◌≤◌, length, MatchResult};
 ghost use Rattle.protocol.specs.Image.{allowed, total, view};
 ghost use Rattle.protocol.specs.Calls.{context_part, context_status};
-ghost use Rattle.protocol.specs.Refusals.{number_of};
+ghost use Rattle.protocol.specs.Replies.{refusal_number};
 ghost use Rattle.inspect.specs.Same.{same_shape, same_bytes, same_areas, compared_says, compare};
 
 use layout::{checkpoint_at, read_header, recovery_at};
@@ -13,7 +13,7 @@ use protocol::{Refusal, Shape};
 pub fn recovery_context(image: &[u8], board: usize) -> Result<&[u8], Refusal>
     ensures { MatchResult result
         (λ part. (context_status image.now board ≡ 0) × (part.now ≡ context_part image.now board))
-        (λ why. context_status image.now board ≡ number_of why) }
+        (λ why. context_status image.now board ≡ refusal_number why) }
 {
     let s = read_header(image, 0)?;
     if board >= s.boards {

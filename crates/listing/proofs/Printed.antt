@@ -10,7 +10,7 @@ use borrow.Author.Tests.{eq-eqb, ne_eqb}
 use Rattle.boards.proofs.Basics.{if_true, if_false}
 use Rattle.volatile.specs.declared.Record.{Record}
 use Rattle.protocol.specs.Calls.{filled}
-use Rattle.protocol.specs.Refusals.{number_of}
+use Rattle.protocol.specs.Replies.{refusal_number}
 use Rattle.protocol.specs.declared.Refusal.{Refusal}
 use Rattle.protocol.proofs.Numbers.{refusal_not_zero}
 use Rattle.order.specs.Call.{order_status, components, ordered_says, AnswersOrder}
@@ -36,10 +36,10 @@ module _ (image : List ℕ) (r : Record) {masks after : List ℕ} where
         (eq-eqb (order_status image r) 0 (sym (ap (λ x. x.status) h.answer))))
 
   pub refusal_text : (why : Refusal) → AnswersOrder image r masks (ordered_says (Err why)) after
-      → decimal (number_of why) ++ line_feed ∷ [] ≡ order_text image r
+      → decimal (refusal_number why) ++ line_feed ∷ [] ≡ order_text image r
   unfolding order_text
   refusal_text why h =
-      let same : number_of why ≡ order_status image r = ap (λ x. x.status) h.answer in
+      let same : refusal_number why ≡ order_status image r = ap (λ x. x.status) h.answer in
       ap (λ n. decimal n ++ line_feed ∷ []) same
       ∙ sym (if_false (component_lines (components image r)) (decimal (order_status image r) ++ line_feed ∷ [])
       (ne_eqb (order_status image r) 0 (λ z. refusal_not_zero why (same ∙ z))))

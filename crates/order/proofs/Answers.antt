@@ -23,7 +23,7 @@ use Rattle.protocol.specs.Image.{in_order, shape_of}
 use Rattle.protocol.specs.Calls.{Test, test, first, entry_tests, filled}
 use Rattle.protocol.specs.declared.Shape.{Shape}
 use Rattle.protocol.proofs.Bridge.{limits, order_sound}
-use Rattle.protocol.specs.Refusals.{number_of}
+use Rattle.protocol.specs.Replies.{refusal_number}
 use Rattle.protocol.specs.declared.Refusal.{Refusal}
 use Rattle.protocol.proofs.Refusals.{entered, first_held, first_passed, first_stops, entry_goes_on}
 use Rattle.protocol.proofs.Numbers.{refusal_not_zero}
@@ -50,8 +50,8 @@ module _ (image : List ℕ) (r : Record) where
       (λ (e : in_order 0 image ≡ false). rw e)
       (decide (in_order 0 image))
 
-  pub entry_stops : (why : Refusal) → first (entry_tests image r 0) ≡ number_of why
-      → order_status image r ≡ number_of why
+  pub entry_stops : (why : Refusal) → first (entry_tests image r 0) ≡ refusal_number why
+      → order_status image r ≡ refusal_number why
   entry_stops why e = stops_so (λ z. refusal_not_zero why (sym e ∙ z)) ∙ e
 
   -- the last one: whether a commit is open
@@ -72,12 +72,12 @@ module _ (image : List ℕ) (r : Record) where
 
   -- ---- the answer
 
-  pub refused_so : (why : Refusal) {masks : List ℕ} → order_status image r ≡ number_of why
+  pub refused_so : (why : Refusal) {masks : List ℕ} → order_status image r ≡ refusal_number why
       → AnswersOrder image r masks (ordered_says (Err why)) masks
   unfolding components filled
   refused_so why e =
       let stops : eqb (order_status image r) 0 ≡ false =
-      ap (λ x. eqb x 0) e ∙ ne_eqb (number_of why) 0 (refusal_not_zero why) in
+      ap (λ x. eqb x 0) e ∙ ne_eqb (refusal_number why) 0 (refusal_not_zero why) in
       record { answer = rw (stops, e); masks_after = rw stops }
 
 -- all boards are left: the code's rows are sixteen numbers of sixteen bits

@@ -8,7 +8,7 @@ use Rattle.volatile.specs.declared.Record.{Record}
 use Rattle.components.specs.Components.{order_from, order}
 use Rattle.protocol.specs.Image.{shape_of, in_order}
 use Rattle.protocol.specs.Calls.{Test, test, first, filled}
-use Rattle.protocol.specs.Refusals.{number_of}
+use Rattle.protocol.specs.Replies.{refusal_number}
 use Rattle.protocol.specs.declared.Refusal.{Refusal}
 
 -- 11 for the header, 12, 14
@@ -34,7 +34,7 @@ pub record Ordered : Type 0 where
 -- what the code's answer is in these numbers
 abbrev pub ordered_says : Result ℕ Refusal → Ordered
 ordered_says (Ok n) = record { status = 0; count = n }
-ordered_says (Err e) = record { status = number_of e; count = 0 }
+ordered_says (Err e) = record { status = refusal_number e; count = 0 }
 
 -- What the call promises: status and count, and the lent masks afterwards, of which those from the count on stay.
 pub record AnswersOrder (image : List ℕ) (r : Record) (masks : List ℕ) (a : Ordered) (after : List ℕ) : Type 0 where

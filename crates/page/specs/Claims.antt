@@ -4,7 +4,7 @@ use Rattle.std.specs.Prelude.{◌++◌, eqb, ltb, length, take, Option, Some, No
 use Rattle.boards.specs.Lists.{any_of}
 use Rattle.protocol.specs.Image.{Memory, Decision, shape_of, view}
 use Rattle.protocol.specs.Calls.{Request, stored_group, perform}
-use Rattle.protocol.specs.Answers.{Answer}
+use Rattle.protocol.specs.Replies.{Answer}
 use Rattle.protocol.specs.declared.Shape.{Shape}
 use Rattle.costs.specs.Forecasts.{boards_of, tagged_blocks}
 use Rattle.text.specs.Events.{Event, Make, taken}

@@ -7,7 +7,7 @@ use lib.ListN.{take}
 use Rattle.protocol.specs.Image.{Memory}
 use Rattle.protocol.specs.Calls.{Request, plan}
 use Rattle.protocol.specs.declared.Shape.{Shape}
-use Rattle.protocol.specs.Answers.{reply_says}
+use Rattle.protocol.specs.Replies.{reply_says}
 use Rattle.protocol.specs.declared.Reply.{Reply}
 use Rattle.store.specs.Promise.{Performed}
 use Rattle.text.specs.Events.{Make}

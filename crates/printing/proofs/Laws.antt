@@ -5,11 +5,11 @@ use mathlib.Core.Bool.{Bool}
 use mathlib.Core.List.{List, [], ◌++◌, append_assoc, append-nil}
 use lib.ListN.{length, take, length-append}
 use native.Mathlib.Omega.{arith}
-use Rattle.protocol.specs.Answers.{Answer}
+use Rattle.protocol.specs.Replies.{Answer}
 use Rattle.text.specs.Letters.{power_up_letter, row_character}
 use Rattle.text.specs.Rows.{decimal, row_text, rows_text, following, rows_meant}
 use Rattle.std.specs.Prelude.{None, Some, Result}
-use Rattle.protocol.specs.Answers.{answer_says}
+use Rattle.protocol.specs.Replies.{answer_says}
 use Rattle.protocol.specs.declared.Answer.{Answer as Taken}
 use Rattle.protocol.specs.declared.Refusal.{Refusal}
 use Rattle.text.specs.declared.Rows.{Rows}

@@ -1,7 +1,7 @@
 #![tactic(auto)]
 // Output lines, written into a lent buffer.
 ghost use Rattle.std.specs.Prelude.{◌≡◌, ◌+◌, ◌*◌, ◌≤◌, length};
-ghost use Rattle.protocol.specs.Answers.{answer_says};
+ghost use Rattle.protocol.specs.Replies.{answer_says};
 ghost use Rattle.text.specs.Rows.{row_text, rows_text, rows_meant};
 ghost use Rattle.digits.specs.Append.{HasRoom, Writes};
 ghost use Rattle.printing.specs.Parts.{between, head_text, middle_text, tail_text};

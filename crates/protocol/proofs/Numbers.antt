@@ -1,14 +1,14 @@
 -- The numbers of refusals.
 use mathlib.Core.Logic.{◌≢◌}
 use native.Mathlib.Omega.{arith}
-use Rattle.protocol.specs.Refusals.{number_of}
+use Rattle.protocol.specs.Replies.{refusal_number}
 use Rattle.protocol.specs.declared.Refusal.{Refusal}
 use Rattle.protocol.specs.declared.Refusal.TheVariants.{NoSuchBoard, OutOfRange, WrongContext, ShapeNotAllowed}
 use Rattle.protocol.specs.declared.Refusal.TheVariants.{WrongLength, Unreadable, Disordered, RecordDisordered, Engaged}
 use Rattle.protocol.specs.declared.Refusal.TheVariants.{CommitOpen, NoMember, Acknowledged, OverPortLimit, PageFull}
 
 -- no refusal has the number 0, which is done
-pub refusal_not_zero : (e : Refusal) → number_of e ≢ 0
+pub refusal_not_zero : (e : Refusal) → refusal_number e ≢ 0
 refusal_not_zero NoSuchBoard h = omega arith
 refusal_not_zero OutOfRange h = omega arith
 refusal_not_zero WrongContext h = omega arith

@@ -14,7 +14,7 @@ use Rattle.protocol.specs.declared.Shape.{Shape}
 use Rattle.protocol.specs.declared.Requester.{Requester}
 use Rattle.protocol.specs.declared.Requester.TheVariants.{Board, Port}
 use Rattle.volatile.specs.declared.Record.{Record}
-use Rattle.protocol.specs.Answers.{Answer, Reply, refusal_answer}
+use Rattle.protocol.specs.Replies.{Answer, Reply, refusal_answer}
 
 -- What a call asks for, with all arguments but image, record and budget: boards and cells by number, bytes; of an
 -- access who makes it, of a read's answer buffer its length, `room`. (Document 01 calls the papers that come later

@@ -1,5 +1,4 @@
-pub mod Refusals
-pub mod Answers
+pub mod Replies
 pub mod Image
 pub mod Accesses
 pub mod Calls

@@ -1,8 +1,8 @@
 #![tactic(auto)]
 // The types that the definitions in specs/ and the promises of the module share.
 ghost use Rattle.std.specs.Prelude.{◌≡◌};
-ghost use Rattle.protocol.specs.Answers.{answer_says};
-ghost use Rattle.protocol.specs.Refusals.{number_of};
+ghost use Rattle.protocol.specs.Replies.{answer_says};
+ghost use Rattle.protocol.specs.Replies.{refusal_number};
 
 use volatile::Record;
 
@@ -31,8 +31,9 @@ pub enum Binding {
     Opposite,
 }
 
-// Why a call, an event line or a page's commit is refused; each has the number that documents 01 and 02 give it. The
-// definitions speak of these numbers, by `number_of`.
+// Why a call or an event line is refused, and, `PageFull`, why a decided commit is not printed in a page, which is no
+// refusal of the call; each has the number that documents 01 and 02 give it. The definitions speak of these numbers, by
+// `refusal_number`.
 #[derive(Clone, Copy, Debug, PartialEq, Eq)]
 pub enum Refusal {
     NoSuchBoard = 1,
@@ -54,7 +55,7 @@ pub enum Refusal {
 impl Refusal {
     // The number that is answered and printed.
     pub fn number(self) -> u8
-        ensures { result ≡ number_of self }
+        ensures { result ≡ refusal_number self }
     {
         self as u8
     }

@@ -20,7 +20,7 @@ use Rattle.protocol.specs.Calls.{PowerUp, first, power_tests, refusal_at, stored
 use Rattle.protocol.specs.Calls.{block_copied, blocks_copied, completing, completed_first, recovering, plan}
 use Rattle.volatile.specs.Volatile.{fresh}
 use Rattle.protocol.specs.declared.Shape.{Shape}
-use Rattle.protocol.specs.Answers.{reply_says}
+use Rattle.protocol.specs.Replies.{reply_says}
 use Rattle.protocol.specs.declared.Reply.{Reply}
 use Rattle.volatile.specs.declared.Record.{Record}
 use Rattle.boards.proofs.Basics.{decide, any_none, none_any, some_any, every_at}

@@ -11,7 +11,7 @@ ghost use Rattle.store.specs.Promise.{Performed};
 ghost use Rattle.entry.specs.Tested.{Tested};
 ghost use Rattle.recovery.specs.Recoverable.{Recoverable, Decides};
 
-use blocks::{complete, copy_blocks};
+use blocks::{Copying, complete, copy_blocks};
 use boards::sets::beyond;
 use layout::{DECISION, GROUP_HIGH, GROUP_LOW, TAGS, read_header};
 use protocol::{Refusal, Reply, Shape};
@@ -91,7 +91,7 @@ pub fn power_up(image: &mut [u8], k: usize) -> Reply
     };
     let whole = Budget::new(k);
     let first = complete_first(image, s, whole);
-    let done = copy_blocks(image, s, 65535, false, first);
+    let done = copy_blocks(image, s, 65535, Copying::Restore, first);
     let next = Record::fresh();
     finish(k, done, false, 0, next)
 }

@@ -8,7 +8,7 @@ use lib.Dec.{eqb, leb}
 use lib.ListN.{length}
 use borrow.Author.Tests.{eq-eqb, ne_eqb, le-leb, lt-leb}
 use Rattle.std.specs.Prelude.{Some, None, Ok, Err}
-use Rattle.protocol.specs.Refusals.{number_of}
+use Rattle.protocol.specs.Replies.{refusal_number}
 use Rattle.protocol.specs.declared.Refusal.{Refusal}
 use Rattle.protocol.proofs.Numbers.{refusal_not_zero}
 use Rattle.boards.proofs.Basics.{if_true, if_false, true_and, false_and, and_false}
@@ -66,7 +66,7 @@ module _ (image : List ℕ) (state : Record) (k : ℕ) where
   unfolding decided_by
   undecided request e = sym (if_false _ _ e)
 
-  pub refused_nothing : (request : Request) (why : Refusal) → refusal_at image state request ≡ number_of why
+  pub refused_nothing : (request : Request) (why : Refusal) → refusal_at image state request ≡ refusal_number why
       → None ≡ decided_by player (Make request)
   refused_nothing request why e =
       undecided request (refused_undecided image state request k (λ z. refusal_not_zero why (sym e ∙ z)))

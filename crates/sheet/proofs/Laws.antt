@@ -10,7 +10,7 @@ use Rattle.std.proofs.lemmas.Bool.{false≢true}
 use Rattle.protocol.proofs.Numbers.{refusal_not_zero}
 use Rattle.protocol.specs.declared.Refusal.{Refusal}
 use Rattle.page.specs.Columns.{blank, leading, padded}
-use Rattle.sheet.specs.Sums.{status_of}
+use Rattle.sheet.specs.Sums.{added_status}
 
 before : (w : ℕ) → suc w - 1 ≡ w
 before w = omega arith
@@ -27,10 +27,10 @@ padded_last (suc w) n h = rw (before w)
 
 -- ---- what a commit is answered: 0, or the number of a refusal
 
-pub status_zero : {A : Type 0} (r : Result A Refusal) → is_err r ≡ false → status_of r ≡ 0
+pub status_zero : {A : Type 0} (r : Result A Refusal) → is_err r ≡ false → added_status r ≡ 0
 status_zero (Ok a) e = refl
 status_zero (Err refusal) e = absurd (false≢true (sym e))
 
-pub status_some : {A : Type 0} (r : Result A Refusal) → is_err r ≡ true → 1 ≤ status_of r
+pub status_some : {A : Type 0} (r : Result A Refusal) → is_err r ≡ true → 1 ≤ added_status r
 status_some (Ok a) e = absurd (false≢true e)
 status_some (Err refusal) e = omega (arith, refusal_not_zero refusal)

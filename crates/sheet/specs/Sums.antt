@@ -1,6 +1,6 @@
 -- How large totals can be, and the number of what a commit is answered.
 use Rattle.std.specs.Prelude.{ℕ, ◌*◌, ◌≤◌, Result, Ok, Err}
-use Rattle.protocol.specs.Refusals.{number_of}
+use Rattle.protocol.specs.Replies.{refusal_number}
 use Rattle.protocol.specs.declared.Refusal.{Refusal}
 use Rattle.page.specs.declared.Totals.{Totals}
 
@@ -11,6 +11,6 @@ pub record Small (t : Totals) : Type 0 where
   pub bytes : t.bytes ≤ t.commits * 17408
 
 -- 0, or the number of the refusal
-abbrev pub status_of : {A : Type 0} → Result A Refusal → ℕ
-status_of (Ok a) = 0
-status_of (Err refusal) = number_of refusal
+abbrev pub added_status : {A : Type 0} → Result A Refusal → ℕ
+added_status (Ok a) = 0
+added_status (Err refusal) = refusal_number refusal

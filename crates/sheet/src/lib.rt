@@ -4,7 +4,7 @@ ghost use Rattle.std.specs.Prelude.{◌≡◌, cond, ◌+◌, ◌%◌, ◌≤◌
 ghost use Rattle.digits.specs.Append.{HasRoom, Writes};
 ghost use Rattle.page.specs.Columns.{blank, leading, padded, amounts_text, commit_line, total_line};
 ghost use Rattle.page.specs.Page.{full_status, added};
-ghost use Rattle.sheet.specs.Sums.{Small, status_of};
+ghost use Rattle.sheet.specs.Sums.{Small, added_status};
 
 use digits::Output;
 use page::{Saved, Totals};
@@ -13,10 +13,10 @@ use protocol::Refusal;
 // The commits that are printed at most.
 pub const MOST_COMMITS: usize = 9999;
 
-// A decided commit is counted and, if it is to be printed, summed.
+// A decided commit is counted and, if it is to be printed, summed; else refused, and counted all the same.
 pub fn add(totals: &mut Totals, c: Saved) -> Result<(), Refusal>
     requires { Small totals.old × (totals.old.commits ≤ 9999) × (c.blocks ≤ 1024) × (c.bytes ≤ 17408) }
-    ensures { (status_of result ≡ full_status totals.old) × (totals.new ≡ added totals.old c) × Small totals.new }
+    ensures { (added_status result ≡ full_status totals.old) × (totals.new ≡ added totals.old c) × Small totals.new }
 {
     totals.commits += 1;
     if totals.commits > MOST_COMMITS {

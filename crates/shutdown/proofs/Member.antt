@@ -23,7 +23,7 @@ use Rattle.protocol.specs.Image.{Memory, Tags, Tentative, rank, change, after, s
 use Rattle.protocol.specs.Calls.{Request, Start, Acknowledge, Outcome, first, entry_tests, start_tests, refusals}
 use Rattle.protocol.specs.Calls.{placing, acknowledging, plan, perform}
 use Rattle.protocol.specs.declared.Shape.{Shape}
-use Rattle.protocol.specs.Answers.{Answer}
+use Rattle.protocol.specs.Replies.{Answer}
 use Rattle.protocol.proofs.Bridge.{Limits}
 use Rattle.protocol.proofs.Copies.{placing_other}
 use Rattle.protocol.proofs.Safety.{decision, decision_done, completed}

@@ -12,7 +12,7 @@ use Rattle.protocol.specs.Image.{Memory, Tags, shape_of, in_order, view}
 use Rattle.protocol.specs.Calls.{Request, Start, Acknowledge, bad_tags, perform}
 use Rattle.protocol.specs.Claim.{Call}
 use Rattle.protocol.specs.declared.Shape.{Shape}
-use Rattle.protocol.specs.Answers.{Answer}
+use Rattle.protocol.specs.Replies.{Answer}
 use Rattle.costs.specs.Forecasts.{those, boards_of, blocks_cost}
 use Rattle.costs.specs.Claims.{AnsweredCall, played}
 

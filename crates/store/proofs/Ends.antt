@@ -13,9 +13,9 @@ use Rattle.protocol.specs.Calls.{carried_out}
 use Rattle.protocol.proofs.Outcomes.{taken, turned_down}
 use Rattle.protocol.specs.declared.Shape.{Shape}
 use Rattle.volatile.specs.declared.Record.{Record}
-use Rattle.protocol.specs.Answers.{Reply, reply_says}
+use Rattle.protocol.specs.Replies.{Reply, reply_says}
 use Rattle.protocol.specs.declared.Reply.{Reply as Returned}
-use Rattle.protocol.specs.Refusals.{number_of}
+use Rattle.protocol.specs.Replies.{refusal_number}
 use Rattle.protocol.specs.declared.Refusal.{Refusal}
 use Rattle.protocol.proofs.Numbers.{refusal_not_zero}
 use Rattle.store.specs.Budget.{Makes, start, spent}
@@ -78,8 +78,8 @@ ended {s} {image} state request {k} {left} {decided} e n new m d f g h =
 
 -- a call that is refused
 pub turned : {image : List ℕ} (state : Record) (request : Request) {k : ℕ} (why : Refusal) {next : Record}
-    {reply : Returned} → refusal_at image state request ≡ number_of why → next ≡ record_refused state request
-    → reply_says reply ≡ refusal_of (number_of why) next → Performed request k image state reply image
+    {reply : Returned} → refusal_at image state request ≡ refusal_number why → next ≡ record_refused state request
+    → reply_says reply ≡ refusal_of (refusal_number why) next → Performed request k image state reply image
 unfolding refused
 turned {image} state request {k} why f e g =
     let o = turned_down image refl state request (λ z. refusal_not_zero why (sym f ∙ z)) k in

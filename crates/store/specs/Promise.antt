@@ -4,7 +4,7 @@ use Rattle.volatile.specs.Volatile.{off}
 use Rattle.protocol.specs.Calls.{Request, perform, filled, format}
 use Rattle.protocol.specs.declared.Shape.{Shape}
 use Rattle.volatile.specs.declared.Record.{Record}
-use Rattle.protocol.specs.Answers.{Reply, reply_says}
+use Rattle.protocol.specs.Replies.{Reply, reply_says}
 use Rattle.protocol.specs.declared.Reply.{Reply as Returned}
 use Rattle.store.specs.declared.Budget.{Budget}
 

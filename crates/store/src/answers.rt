@@ -1,9 +1,9 @@
 // How a call answers: from what is left of its budget, or by its refusal.
 ghost use Rattle.std.specs.Prelude.{◌≡◌, ◌≤◌};
 ghost use Rattle.store.specs.Promise.{reply_of};
-ghost use Rattle.protocol.specs.Answers.{reply_says};
+ghost use Rattle.protocol.specs.Replies.{reply_says};
 ghost use Rattle.protocol.specs.Calls.{refusal_of};
-ghost use Rattle.protocol.specs.Refusals.{number_of};
+ghost use Rattle.protocol.specs.Replies.{refusal_number};
 
 use crate::Budget;
 use protocol::{Answer, Refusal, Reply};
@@ -42,7 +42,7 @@ pub fn finish(k: usize, left: Budget, decided: bool, group: u16, next: Record) -
 
 // Refused, with the record that the call leaves.
 pub fn refusal(why: Refusal, next: Record) -> Reply
-    ensures { reply_says result ≡ refusal_of (number_of why) next }
+    ensures { reply_says result ≡ refusal_of (refusal_number why) next }
 {
     Reply {
         answer: Err(why),

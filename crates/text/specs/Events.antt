@@ -1,7 +1,7 @@
 -- A line taken apart (document 01, "Event lines and `rsmrun`").
 use Rattle.std.specs.Prelude.{ℕ, cond, List, eqb, leb, length, take, Option, None, Some, Result, Ok, Err}
 use Rattle.protocol.specs.Calls.{Request, Read, Write, Start, Acknowledge, Fault, PowerUp}
-use Rattle.protocol.specs.Refusals.{number_of as refusal_number}
+use Rattle.protocol.specs.Replies.{refusal_number}
 use Rattle.protocol.specs.declared.Refusal.{Refusal}
 use Rattle.protocol.specs.declared.Shape.{Shape}
 use Rattle.protocol.specs.declared.Requester.TheVariants.{Board}

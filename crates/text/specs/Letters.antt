@@ -44,7 +44,7 @@ character_of letter.Fault = fault_letter
 character_of letter.PowerUp = power_up_letter
 character_of letter.Allow = allow_letter
 
--- of a row
+-- the character of a row's letter, `?` for none
 abbrev pub row_character : Option Letter → ℕ
 row_character (Some l) = character_of l
 row_character None = unknown_letter

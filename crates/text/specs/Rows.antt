@@ -1,7 +1,7 @@
 -- Output lines (document 01, "Output fields").
 use Rattle.std.specs.Prelude.{ℕ, ◌+◌, ◌/◌, ◌%◌, Bool, cond, List, [], ◌∷◌, ◌++◌, ltb, leb, take}
 use Rattle.std.specs.Prelude.{Option, None, Some, Result}
-use Rattle.protocol.specs.Answers.{Answer, answer_says}
+use Rattle.protocol.specs.Replies.{Answer, answer_says}
 use Rattle.protocol.specs.declared.Answer.{Answer as Taken}
 use Rattle.protocol.specs.declared.Refusal.{Refusal}
 use Rattle.text.specs.Fields.{comma, line_feed}

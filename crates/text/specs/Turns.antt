@@ -5,7 +5,7 @@ use Rattle.volatile.specs.Volatile.{off}
 use Rattle.protocol.specs.Calls.{Request, Read, Write, Start, Acknowledge, Fault, PowerUp, Outcome, perform, format}
 use Rattle.protocol.specs.declared.Shape.{Shape}
 use Rattle.volatile.specs.declared.Record.{Record}
-use Rattle.protocol.specs.Answers.{refusal_answer}
+use Rattle.protocol.specs.Replies.{refusal_answer}
 use Rattle.text.specs.Letters.{format_letter, read_letter, write_letter, start_letter, acknowledge_letter}
 use Rattle.text.specs.Letters.{fault_letter, power_up_letter, allow_letter, unknown_letter}
 use Rattle.text.specs.Events.{Event, Format, Make, Allow, Refused}

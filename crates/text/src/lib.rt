@@ -1,5 +1,5 @@
 #![tactic(auto)]
-// Event lines: the letters, what the fields of a line are read as, and the rows that a line gives.
+// Event lines: the letters, what a line asks for, and the rows that it gives.
 ghost use Rattle.std.specs.Prelude.{◌≡◌};
 ghost use Rattle.text.specs.Letters.{character_of, row_character};
 

@@ -16,7 +16,7 @@ use Rattle.protocol.specs.Calls.{format, format_tests, formatting, filled}
 use Rattle.protocol.specs.declared.Shape.{Shape}
 use Rattle.protocol.specs.declared.Requester.{Requester}
 use Rattle.volatile.specs.declared.Record.{Record}
-use Rattle.protocol.specs.Answers.{Reply}
+use Rattle.protocol.specs.Replies.{Reply}
 use Rattle.boards.proofs.Basics.{decide, clash, length_span}
 use Rattle.protocol.proofs.Refusals.{read_passed, entry_first}
 use Rattle.protocol.proofs.Bridge.{length_made}

@@ -16,7 +16,7 @@ use Rattle.protocol.specs.Calls.{format}
 use Rattle.protocol.specs.declared.Shape.{Shape}
 use Rattle.protocol.specs.declared.Requester.{Requester}
 use Rattle.volatile.specs.declared.Record.{Record}
-use Rattle.protocol.specs.Answers.{reply_says, answer_says}
+use Rattle.protocol.specs.Replies.{reply_says, answer_says}
 use Rattle.protocol.specs.declared.Reply.{Reply}
 use Rattle.store.specs.Promise.{Performed, Formatted, Answered}
 use Rattle.text.specs.Events.{room}

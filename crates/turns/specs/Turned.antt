@@ -1,6 +1,6 @@
 -- The code's player: its image stands at the start of a larger area. What playing an event promises.
 use Rattle.std.specs.Prelude.{ℕ, ◌≤◌, ◌≡◌, List, [], ◌∷◌, Result, Ok, Err, length, take}
-use Rattle.protocol.specs.Refusals.{number_of}
+use Rattle.protocol.specs.Replies.{refusal_number}
 use Rattle.protocol.specs.declared.Refusal.{Refusal}
 use Rattle.protocol.specs.Calls.{Outcome}
 use Rattle.text.specs.Events.{room}
@@ -47,4 +47,4 @@ character_told (Err why) = unknown_letter
 
 abbrev pub status_told : Result Letter Refusal → ℕ
 status_told (Ok letter) = 0
-status_told (Err why) = number_of why
+status_told (Err why) = refusal_number why

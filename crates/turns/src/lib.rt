@@ -2,7 +2,7 @@
 // How a line's turn ends: its rows, the power-up after a cut, and what stands between two lines.
 ghost use Rattle.std.specs.Prelude.{◌≡◌, cond, List, ℕ, ◌≤◌, eqb, length, take};
 ghost use Rattle.volatile.specs.declared.Record.{Record as State};
-ghost use Rattle.protocol.specs.Answers.{answer_says, reply_says, refusal_answer};
+ghost use Rattle.protocol.specs.Replies.{answer_says, reply_says, refusal_answer};
 ghost use Rattle.protocol.specs.Calls.{perform, PowerUp};
 ghost use Rattle.text.specs.Letters.{character_of, row_character};
 ghost use Rattle.text.specs.Turns.{ended, told, uncut};
@@ -127,7 +127,7 @@ pub fn tell(p: Session, letter: Result<Letter, Refusal>, k: usize) -> Turned
     Turned { next, rows }
 }
 
-// How many bytes a read of n answered: all, or none if it was refused.
+// How many bytes a read of n answered: all, or none if it was refused or cut.
 pub fn answered(answer: Result<Answer, Refusal>, n: usize) -> usize
     ensures { result ≡ cond (eqb (answer_says answer).status 0) n 0 }
 {

@@ -2,7 +2,7 @@
 use mathlib.Core.Path.{◌∙◌}
 use native.Mathlib.Omega.{arith}
 use Rattle.protocol.specs.Image.{total}
-use Rattle.blocks.specs.Banks.{bank}
+use Rattle.blocks.specs.Banks.{bank, filled}
 use Rattle.blocks.proofs.Blocks.{cleared}
 use Rattle.store.proofs.Chains.{puts_length, puts_well}
 use Rattle.blocks.proofs.Composite.{completes}
@@ -20,7 +20,7 @@ unfolding total
 store-requires c = omega arith
 
 pub returns : goal.returns
-unfolding bank
+unfolding bank filled
 returns c =
     completes c.requires.1 c.requires.2 c.args.g c.copy_blocks-saved.ensures
     c.copy_contexts-kept.ensures

@@ -7,7 +7,7 @@ use Rattle.blocks.proofs.copy_blocks.Given as goal
 
 abbrev pub invariant-loop-b : goal.invariant-loop-b
 invariant-loop-b l =
-    (l.b ≤ l.s.blocks) × Puts l.s (for l.b (block_puts l.s (view l.s l.initial.image) l.g l.save)) l.initial.left
+    (l.b ≤ l.s.blocks) × Puts l.s (for l.b (block_puts l.s (view l.s l.initial.image) l.g l.how)) l.initial.left
     l.initial.image l.left l.image
 
 abbrev pub decreases-loop-b : goal.decreases-loop-b

@@ -5,4 +5,4 @@ use Rattle.blocks.proofs.eight_zeros.Goals as goal
 
 pub returns : goal.returns
 returns c =
-    λ e. eight_none c.args.image.now c.args.at (eqb-true _ 0 e)
+    λ e. eight_none c.args.tags.now (eqb-true _ 0 e)

@@ -1,12 +1,8 @@
-use Prim.Native.Nat.{ℕ, ◌+◌, ◌-◌, ◌≤◌, ◌<◌}
+use Prim.Native.Nat.{ℕ, ◌+◌, ◌*◌, ◌≤◌, ◌<◌}
 use mathlib.Core.Path.{◌≡◌}
 use lib.ListN.{get_or}
 use Rattle.layout.specs.Headers.{tags_at}
 use Rattle.blocks.proofs.past_eights.Given as goal
 
 abbrev pub invariant-loop-i : goal.invariant-loop-i
-invariant-loop-i l =
-    (l.b ≤ l.i) × (l.i ≤ l.s.blocks) × ((j : ℕ) → l.b ≤ j → j < l.i → get_or l.image (tags_at + j) 0 ≡ 0)
-
-abbrev pub decreases-loop-i : goal.decreases-loop-i
-decreases-loop-i l = l.s.blocks - l.i
+invariant-loop-i l = (j : ℕ) → l.b ≤ j → j < l.b + 8 * l.i → get_or l.image (tags_at + j) 0 ≡ 0

@@ -5,7 +5,7 @@ use mathlib.Core.Bool.{false}
 use native.Mathlib.Omega.{arith}
 use Rattle.protocol.specs.Image.{shape_of}
 use Rattle.protocol.specs.Accesses.{board_of}
-use Rattle.protocol.specs.Refusals.{number_of}
+use Rattle.protocol.specs.Replies.{refusal_number}
 use Rattle.volatile.specs.Volatile.{bad_record}
 use Rattle.layout.proofs.Laws.{bounded}
 use Rattle.entry.proofs.Laws.{entry_eleven, entry_twelve, entry_one, entry_none, same_board, handed_on}
@@ -19,7 +19,7 @@ same c = same_board c.args.who c.in_ok-s.ensures.shaped c.board_of.ensures
 pub returns-in_err-s : goal.returns-in_err-s
 returns-in_err-s c =
     handed_on _ _ _ c.from_residual.ensures.1
-    (entry_eleven _ _ _ c.in_err-s.ensures.0 ∙ sym (ap number_of c.in_err-s.ensures.1))
+    (entry_eleven _ _ _ c.in_err-s.ensures.0 ∙ sym (ap refusal_number c.in_err-s.ensures.1))
 
 pub overflow_cast-s : goal.overflow_cast-s
 overflow_cast-s c = omega (arith, (bounded c.in_ok-s.ensures.shaped.allowed_shape).limits.most_boards)

@@ -24,18 +24,18 @@ returns-in_default c =
 pub returns-then-end-line : goal.returns-then-end-line
 unfolding meant counted
 returns-then-end-line c =
-    let other = bytes_missing _ c.requires.0 c.requires.1 c.in-Some.is c.read_numbers.ensures c.if-end-line.true in
+    let other = bytes_missing _ c.requires.0 c.requires.1 c.in-Ok.is c.read_numbers.ensures c.if-end-line.true in
     (sym other, omega arith)
 
 pub returns-in_default-read_bytes : goal.returns-in_default-read_bytes
 unfolding meant counted
 returns-in_default-read_bytes c =
-    let made = bytes_made _ c.requires.0 c.requires.1 c.in-Some.is c.read_numbers.ensures c.if-end-line.false in
+    let made = bytes_made _ c.requires.0 c.requires.1 c.in-Ok.is c.read_numbers.ensures c.if-end-line.false in
     let malformed = told c.in_default-read_bytes.is c.read_bytes.ensures in
     (sym (made ∙ other malformed _), omega arith)
 
 pub returns : goal.returns
 returns c =
-    let made = bytes_made _ c.requires.0 c.requires.1 c.in-Some.is c.read_numbers.ensures c.if-end-line.false in
-    let counts = told c.in-Some-read_bytes.is c.read_bytes.ensures in
+    let made = bytes_made _ c.requires.0 c.requires.1 c.in-Ok.is c.read_numbers.ensures c.if-end-line.false in
+    let counts = told c.in-Some.is c.read_bytes.ensures in
     (c.with_count.ensures.0 _ ∙ sym (made ∙ bytes counts _), omega (arith, count_fits counts (search rules)))

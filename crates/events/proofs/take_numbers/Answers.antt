@@ -16,11 +16,11 @@ returns-in_default c =
 pub returns-then-values-line : goal.returns-then-values-line
 unfolding meant counted
 returns-then-values-line c = (
-  λ b. sym (numbers_more _ c.requires.0 c.requires.1 c.in-Some.is c.read_numbers.ensures c.if-values-line.true),
+  λ b. sym (numbers_more _ c.requires.0 c.requires.1 c.in-Ok.is c.read_numbers.ensures c.if-values-line.true),
   omega arith,
 )
 
 pub returns : goal.returns
 returns c =
-    let made = numbers_made _ c.requires.0 c.requires.1 c.in-Some.is c.read_numbers.ensures c.if-values-line.false in
+    let made = numbers_made _ c.requires.0 c.requires.1 c.in-Ok.is c.read_numbers.ensures c.if-values-line.false in
     (λ b. c.with_values.ensures.0 b ∙ sym made, c.with_values.ensures.1)

@@ -5,7 +5,7 @@ use native.Mathlib.Omega.{arith}
 use Rattle.volatile.specs.Volatile.{depends}
 use Rattle.protocol.specs.Calls.{Fault, refusals, entry_tests, record_refused}
 use Rattle.store.proofs.Ends.{left_most}
-use Rattle.blocks.specs.Banks.{bank}
+use Rattle.blocks.specs.Banks.{bank, filled}
 use Rattle.entry.proofs.Laws.{small, call_refused_first}
 use Rattle.fault.proofs.Laws.{fault_done}
 use Rattle.fault.proofs.fault.Goals as goal
@@ -26,7 +26,7 @@ pub finish-requires : goal.finish-requires
 finish-requires c = left_most c.new-whole.ensures c.copy_blocks-left.ensures.makes
 
 pub returns : goal.returns
-unfolding refusals bank depends
+unfolding refusals bank filled depends
 returns c =
     let passed = c.in-Ok.ensures in
     fault_done c.args.state c.args.board passed.known.shaped.shape passed.none c.fault_closure-group.ensures.members

@@ -13,28 +13,27 @@ loop-i-init c = (refl, ends_first c.args.s.now c.requires.0, below_none _)
 
 pub returns-then-end-s : goal.returns-then-end-s
 returns-then-end-s c =
-    (c.loop-i.i, omega arith, missing c.loop-i.invariant.1 (omega arith))
+    (refl, (c.loop-i.i, omega arith, missing c.loop-i.invariant.1 (omega arith)))
 
-pub returns-in_err-number : goal.returns-in_err-number
-returns-in_err-number c =
-    rw c.from_residual.ensures
-    (c.loop-i.i, omega arith, read_none c.loop-i.invariant.1 c.read_number.ensures c.in_err-number.was)
+pub returns-in_default : goal.returns-in_default
+returns-in_default c =
+    (refl, (c.loop-i.i, omega arith, read_none c.loop-i.invariant.1 c.read_number.ensures c.in_default.is))
 
 pub overflow_add-end : goal.overflow_add-end
 overflow_add-end c =
-    let read = read_value c.loop-i.invariant.1 c.read_number.ensures c.in_ok-number.was in
+    let read = read_value c.loop-i.invariant.1 c.read_number.ensures c.in-Some.is in
     omega (arith, (ends_next c.loop-i.invariant.1 (omega arith) read.1).within)
 
 pub loop-i-preserved : goal.loop-i-preserved
 loop-i-preserved c =
-    let read = read_value c.loop-i.invariant.1 c.read_number.ensures c.in_ok-number.was in (
+    let read = read_value c.loop-i.invariant.1 c.read_number.ensures c.in-Some.is in (
       length-set c.loop-i.values c.loop-i.i _ ∙ c.loop-i.invariant.0,
       ends_next c.loop-i.invariant.1 (omega arith) read.1,
       below_more _ c.loop-i.i
           (λ j l. c.loop-i.invariant.2 j l ∙ ap Some
-          (sym (get_or-set_other c.loop-i.values c.loop-i.i j c.in_ok-number.number.value 0 (λ e. omega arith))))
+          (sym (get_or-set_other c.loop-i.values c.loop-i.i j c.in-Some.number.value 0 (λ e. omega arith))))
           (read.0 ∙ ap Some
-          (sym (get_or-set_same c.loop-i.values c.loop-i.i c.in_ok-number.number.value 0 (omega arith)))),
+          (sym (get_or-set_same c.loop-i.values c.loop-i.i c.in-Some.number.value 0 (omega arith)))),
     )
 
 pub returns : goal.returns

@@ -1,6 +1,6 @@
 -- `put_row` meets its contract: the three parts in a row.
 use native.Mathlib.Omega.{arith}
-use Rattle.protocol.specs.Answers.{answer_says}
+use Rattle.protocol.specs.Replies.{answer_says}
 use Rattle.digits.proofs.Laws.{writes_then}
 use Rattle.printing.proofs.Laws.{length_row, row_parts}
 use Rattle.printing.proofs.put_row.Goals as goal

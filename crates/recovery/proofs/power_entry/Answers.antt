@@ -1,6 +1,6 @@
 -- `power_entry` meets its contract: the three tests in their order.
 use mathlib.Core.Path.{refl, sym, ◌∙◌, ap}
-use Rattle.protocol.specs.Refusals.{number_of}
+use Rattle.protocol.specs.Replies.{refusal_number}
 use Rattle.entry.proofs.Laws.{handed_on}
 use Rattle.recovery.proofs.Laws.{by_tests}
 use Rattle.recovery.proofs.power_entry.Goals as goal
@@ -8,7 +8,7 @@ use Rattle.recovery.proofs.power_entry.Goals as goal
 pub returns-in_err-s : goal.returns-in_err-s
 returns-in_err-s c =
     handed_on _ _ _ c.from_residual.ensures.1
-    (by_tests _ c.in_err-s.ensures.0 refl refl refl ∙ sym (ap number_of c.in_err-s.ensures.1))
+    (by_tests _ c.in_err-s.ensures.0 refl refl refl ∙ sym (ap refusal_number c.in_err-s.ensures.1))
 
 pub bad_tags-requires : goal.bad_tags-requires
 bad_tags-requires c = let shaped = c.in_ok-s.ensures.shaped in (shaped.allowed_shape, shaped.long)

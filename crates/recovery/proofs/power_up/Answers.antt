@@ -5,7 +5,7 @@ use Rattle.protocol.specs.Calls.{PowerUp, refusals, power_tests, record_refused}
 use Rattle.store.proofs.Laws.{well_start, makes_then}
 use Rattle.store.proofs.Ends.{left_most}
 use Rattle.store.proofs.Chains.{puts_length, puts_well}
-use Rattle.blocks.specs.Banks.{bank}
+use Rattle.blocks.specs.Banks.{bank, filled}
 use Rattle.entry.proofs.Laws.{call_refused_first}
 use Rattle.recovery.proofs.Laws.{power_done}
 use Rattle.recovery.proofs.power_up.Goals as goal
@@ -35,7 +35,7 @@ finish-requires c =
     (makes_then c.complete_first-first.ensures.makes c.copy_blocks-done.ensures.makes)
 
 pub returns : goal.returns
-unfolding refusals bank
+unfolding refusals bank filled
 returns c =
     let passed = c.in-Ok.ensures in
     λ state. power_done state passed.known passed.none c.fresh-next.ensures c.new-whole.ensures

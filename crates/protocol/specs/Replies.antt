@@ -5,7 +5,27 @@ use Rattle.volatile.specs.declared.Record.{Record}
 use Rattle.protocol.specs.declared.Refusal.{Refusal}
 use Rattle.protocol.specs.declared.Answer.{Answer as Taken}
 use Rattle.protocol.specs.declared.Reply.{Reply as Returned}
-use Rattle.protocol.specs.Refusals.{number_of}
+use Rattle.protocol.specs.declared.Refusal.TheVariants.{NoSuchBoard, OutOfRange, WrongContext, ShapeNotAllowed}
+use Rattle.protocol.specs.declared.Refusal.TheVariants.{WrongLength, Unreadable, Disordered, RecordDisordered, Engaged}
+use Rattle.protocol.specs.declared.Refusal.TheVariants.{CommitOpen, NoMember, Acknowledged, OverPortLimit, PageFull}
+
+-- the number of a refusal ("Refusals that come from the input", "Refusals that come from the state"; 17: document 02,
+-- Req 03; 18: Req 05)
+abbrev pub refusal_number : Refusal → ℕ
+refusal_number NoSuchBoard = 1
+refusal_number OutOfRange = 2
+refusal_number WrongContext = 3
+refusal_number ShapeNotAllowed = 4
+refusal_number WrongLength = 5
+refusal_number Unreadable = 6
+refusal_number Disordered = 11
+refusal_number RecordDisordered = 12
+refusal_number Engaged = 13
+refusal_number CommitOpen = 14
+refusal_number NoMember = 15
+refusal_number Acknowledged = 16
+refusal_number OverPortLimit = 17
+refusal_number PageFull = 18
 
 -- 0 for done, 9 for cut or the number of the refusal; whether a commit was decided; the members of the commit or the
 -- boards rolled back; how many bytes were stored
@@ -26,7 +46,7 @@ refusal_answer n = record { status = n; decided = false; group = 0; stores = 0 }
 
 abbrev pub answer_says : Result Taken Refusal → Answer
 answer_says (Ok a) = record { status = cond a.cut 9 0; decided = a.decided; group = a.group; stores = a.stores }
-answer_says (Err e) = refusal_answer (number_of e)
+answer_says (Err e) = refusal_answer (refusal_number e)
 
 abbrev pub reply_says : Returned → Reply
 reply_says r = record { answer = answer_says r.answer; next = r.next }
