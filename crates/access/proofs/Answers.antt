@@ -102,7 +102,8 @@ unfolding reply_of
 none_spent b next = rw (← sub_self b)
 
 module _ {image : List ℕ} {r : Record} (who : Requester) (a n : ℕ) (buffer : List ℕ) where
-  pub read_refused : (room : ℕ) (why : Refusal) {reply : Reply} → refusal_at image r (Read who a n room) ≡ refusal_number why
+  pub read_refused : (room : ℕ) (why : Refusal) {reply : Reply}
+      → refusal_at image r (Read who a n room) ≡ refusal_number why
       → reply_says reply ≡ refusal_of (refusal_number why) r → Answered (Read who a n room) image r buffer reply buffer
   unfolding refused record_refused filled
   read_refused room why h f =

@@ -35,8 +35,8 @@ fn read_behind<R: Read>(
     meaning_of(read.map(|n| held + n), held)
 }
 
-// Where the text for the next turn ends, or none at the input's end, or where no next line is played. The text is what is
-// held where more of it is to be played, else what is read behind it.
+// Where the text for the next turn ends, or none at the input's end, or where no next line is played. The text is what
+// is held where more of it is to be played, else what is read behind it.
 pub fn next_text<R: Read>(
     from: &mut R,
     size: usize,
