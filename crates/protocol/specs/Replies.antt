@@ -8,9 +8,10 @@ use Rattle.protocol.specs.declared.Reply.{Reply as Returned}
 use Rattle.protocol.specs.declared.Refusal.TheVariants.{NoSuchBoard, OutOfRange, WrongContext, ShapeNotAllowed}
 use Rattle.protocol.specs.declared.Refusal.TheVariants.{WrongLength, Unreadable, Disordered, RecordDisordered, Engaged}
 use Rattle.protocol.specs.declared.Refusal.TheVariants.{CommitOpen, NoMember, Acknowledged, OverPortLimit, PageFull}
+use Rattle.protocol.specs.declared.Refusal.TheVariants.{AllCommitsOpen, NoCounterpart, BadPlan}
 
 -- the number of a refusal ("Refusals that come from the input", "Refusals that come from the state"; 17: document 02,
--- Req 03; 18: Req 05)
+-- Req 03; 18: Req 05; 19: Req 08; 20: Req 10; 21: Req 12)
 abbrev pub refusal_number : Refusal → ℕ
 refusal_number NoSuchBoard = 1
 refusal_number OutOfRange = 2
@@ -26,6 +27,9 @@ refusal_number NoMember = 15
 refusal_number Acknowledged = 16
 refusal_number OverPortLimit = 17
 refusal_number PageFull = 18
+refusal_number AllCommitsOpen = 19
+refusal_number NoCounterpart = 20
+refusal_number BadPlan = 21
 
 -- 0 for done, 9 for cut or the number of the refusal; whether a commit was decided; the members of the commit or the
 -- boards rolled back; how many bytes were stored

@@ -33,7 +33,7 @@ pub enum Binding {
 
 // Why a call or an event line is refused, and, `PageFull`, why a decided commit is not printed in a page, which is no
 // refusal of the call; each has the number that documents 01 and 02 give it. The definitions speak of these numbers, by
-// `refusal_number`.
+// `refusal_number`. The last three come with requests that are still to land (document 02, Req 08, 10 and 12).
 #[derive(Clone, Copy, Debug, PartialEq, Eq)]
 pub enum Refusal {
     NoSuchBoard = 1,
@@ -50,6 +50,9 @@ pub enum Refusal {
     Acknowledged = 16,
     OverPortLimit = 17,
     PageFull = 18,
+    AllCommitsOpen = 19,
+    NoCounterpart = 20,
+    BadPlan = 21,
 }
 
 impl Refusal {
