@@ -1,6 +1,7 @@
 -- The first tests of a call, and what a call that passed them knows.
 use Prim.Native.Nat.{ℕ, ◌≤◌, ◌<◌}
-use mathlib.Core.Path.{◌≡◌, sym, ◌∙◌, ap}
+use mathlib.Core.Path.{◌≡◌, sym, ◌∙◌, ap, subst}
+use mathlib.Core.Logic.{◌≢◌}
 use mathlib.Core.Bool.{true, false}
 use mathlib.Core.List.{List, ◌++◌}
 use borrow.Author.Tests.{le-leb, lt-leb}
@@ -16,7 +17,7 @@ use Rattle.protocol.specs.Replies.{refusal_number}
 use Rattle.protocol.specs.declared.Refusal.{Refusal}
 use Rattle.protocol.specs.declared.Reply.{Reply}
 use Rattle.store.specs.Promise.{Performed}
-use Rattle.store.proofs.Ends.{turned}
+use Rattle.store.proofs.Ends.{turned_by}
 use Rattle.protocol.proofs.Numbers.{refusal_not_zero}
 use Rattle.protocol.proofs.Bridge.{board_small}
 use Rattle.protocol.proofs.Refusals.{first_stops}
@@ -63,13 +64,28 @@ pub handed_on : {T : Type 0} {n : ℕ} (Known : T → Type 0) (r : Result T Refu
 handed_on Known (Ok t) why h e = elim h [ ]
 handed_on Known (Err x) why h e = e ∙ sym (ap refusal_number h)
 
+-- what is known of tests that passed
+pub if_taken : {T : Type 0} (n : ℕ) (Known : T → Type 0) {r : Result T Refusal} {t : T} → Tested n Known r → r ≡ Ok t
+    → (n ≡ 0) × Known t
+if_taken n Known h e = let p = subst (Tested n Known) e h in (p.none, p.known)
+
+-- the first of a call's tests refuse it, by whatever number and whatever follows them
+module _ (ts us : List Test) {m : ℕ} (e : first ts ≡ m) (some : m ≢ 0) where
+  pub refused_first_by : first (ts ++ us) ≡ m
+  refused_first_by = first_stops ts us (λ z. some (sym e ∙ z)) ∙ e
+
+  pub call_refused_first_by : {image : List ℕ} (state : Record) (request : Request) {k : ℕ} {next : Record}
+      {reply : Reply} → refusal_at image state request ≡ first (ts ++ us) → reply_says reply ≡ refusal_of m next
+      → next ≡ record_refused state request → Performed request k image state reply image
+  call_refused_first_by state request same g h = turned_by state request (same ∙ refused_first_by) some h g
+
+-- and by a refusal
 module _ (ts us : List Test) (why : Refusal) (e : first ts ≡ refusal_number why) where
-  -- the first of a call's tests refuse it, whatever follows them
   pub refused_first : first (ts ++ us) ≡ refusal_number why
-  refused_first = first_stops ts us (λ z. refusal_not_zero why (sym e ∙ z)) ∙ e
+  refused_first = refused_first_by ts us e (refusal_not_zero why)
 
   pub call_refused_first : {image : List ℕ} (state : Record) (request : Request) {k : ℕ} {next : Record}
       {reply : Reply} → refusal_at image state request ≡ first (ts ++ us)
       → reply_says reply ≡ refusal_of (refusal_number why) next → next ≡ record_refused state request
       → Performed request k image state reply image
-  call_refused_first state request same g h = turned state request why (same ∙ refused_first) h g
+  call_refused_first = call_refused_first_by ts us e (refusal_not_zero why)

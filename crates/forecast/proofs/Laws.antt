@@ -22,6 +22,7 @@ use Rattle.protocol.proofs.Refusals.{first_held, first_passed, entry_goes_on}
 use Rattle.protocol.proofs.Numbers.{refusal_not_zero}
 use Rattle.layout.specs.Headers.{tags_at}
 use Rattle.layout.proofs.Laws.{bounded}
+use Rattle.costs.specs.Forecasts.{Forecast}
 use Rattle.costs.specs.Forecasts.{those, boards_of, tagged_blocks, blocks_cost, refused, answered, commit_tests}
 use Rattle.costs.proofs.Answers.{answered_refused, answered_taken}
 use Rattle.costs.proofs.Counted.{those_more, those_most}
@@ -97,9 +98,12 @@ module _ (image : List ℕ) (r : Record) (i : ℕ) (entered : first (entry_tests
 
 -- a forecast with these tests is refused, or answers the group and its cost
 module _ (ts : List Test) where
+  pub refused_by : {f : Forecast} {n : ℕ} (g c : ℕ) → first ts ≡ n → n ≢ 0 → f ≡ refused n → f ≡ answered (first ts) g c
+  refused_by g c e some same = same ∙ sym (rw e (answered_refused g c some))
+
   pub refused_so : (why : Refusal) (g c : ℕ) → first ts ≡ refusal_number why
       → refused (refusal_number why) ≡ answered (first ts) g c
-  refused_so why g c e = sym (rw e (answered_refused g c (refusal_not_zero why)))
+  refused_so why g c e = refused_by g c e (refusal_not_zero why) refl
 
   pub taken_so : (cost : Shape → Memory → ℕ → ℕ) {s : Shape} (image : List ℕ) {g group stores : ℕ} → first ts ≡ 0
       → shape_of image ≡ s → g ≡ group → stores ≡ cost s (view s image) g

@@ -29,7 +29,7 @@ use Rattle.protocol.proofs.Refusals.{entered, first_held, first_passed, first_st
 use Rattle.protocol.proofs.Numbers.{refusal_not_zero}
 use Rattle.costs.specs.Forecasts.{commit_tests, commit_forecast}
 use Rattle.costs.proofs.Answers.{answered_status}
-use Rattle.order.specs.Call.{order_status, components, ordered_says, AnswersOrder, WithDependents, PutFrom}
+use Rattle.order.specs.Call.{Ordered, order_status, components, ordered_says, AnswersOrder, WithDependents, PutFrom}
 use Rattle.order.specs.Claims.{RefusedAsForecast}
 use Rattle.order.proofs.Next.{rows_bounded}
 
@@ -72,13 +72,16 @@ module _ (image : List ℕ) (r : Record) where
 
   -- ---- the answer
 
+  pub refused_by : {n : ℕ} {a : Ordered} {masks : List ℕ} → order_status image r ≡ n → n ≢ 0
+      → a ≡ record { status = n; count = 0 } → AnswersOrder image r masks a masks
+  unfolding components filled
+  refused_by {n} e some same =
+      let stops : eqb (order_status image r) 0 ≡ false = ap (λ x. eqb x 0) e ∙ ne_eqb n 0 some in
+      record { answer = same ∙ rw (stops, e); masks_after = rw stops }
+
   pub refused_so : (why : Refusal) {masks : List ℕ} → order_status image r ≡ refusal_number why
       → AnswersOrder image r masks (ordered_says (Err why)) masks
-  unfolding components filled
-  refused_so why e =
-      let stops : eqb (order_status image r) 0 ≡ false =
-      ap (λ x. eqb x 0) e ∙ ne_eqb (refusal_number why) 0 (refusal_not_zero why) in
-      record { answer = rw (stops, e); masks_after = rw stops }
+  refused_so why e = refused_by e (refusal_not_zero why) refl
 
 -- all boards are left: the code's rows are sixteen numbers of sixteen bits
 module _ (image : List ℕ) (r : Record) (rows : Sixteen r.rows) {s : Shape} (same : shape_of image ≡ s)

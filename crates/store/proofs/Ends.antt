@@ -1,6 +1,7 @@
 -- How a call ends: from the stores made under its budget to the outcome of the definitions.
 use Prim.Native.Nat.{ℕ, ◌-◌, ◌≤◌}
 use mathlib.Core.Path.{◌≡◌, refl, sym, ◌∙◌, ap, ap₂}
+use mathlib.Core.Logic.{◌≢◌}
 use mathlib.Core.Bool.{Bool, true, false}
 use mathlib.Core.List.{List, map}
 use lib.ListN.{take}
@@ -76,11 +77,17 @@ ended {s} {image} state request {k} {left} {decided} e n new m d f g h =
     let both = made_outcome p.group p.next p.bytes decided (makes_begun new m) d in
     performed state request e n (h ∙ ap₂ (reply_of k left decided) f g ∙ both.0) both.1
 
--- a call that is refused
+-- a call that is refused, by whatever number
+pub turned_by : {image : List ℕ} (state : Record) (request : Request) {k n : ℕ} {next : Record} {reply : Returned}
+    → refusal_at image state request ≡ n → n ≢ 0 → next ≡ record_refused state request
+    → reply_says reply ≡ refusal_of n next → Performed request k image state reply image
+unfolding refused
+turned_by {image} state request {k} f h e g =
+    let o = turned_down image refl state request (λ z. h (sym f ∙ z)) k in
+    record { reply = g ∙ ap₂ refusal_of (sym f) e ∙ sym (ap (λ x. x.reply) o); image = sym (ap (λ x. x.image) o) }
+
+-- by a refusal
 pub turned : {image : List ℕ} (state : Record) (request : Request) {k : ℕ} (why : Refusal) {next : Record}
     {reply : Returned} → refusal_at image state request ≡ refusal_number why → next ≡ record_refused state request
     → reply_says reply ≡ refusal_of (refusal_number why) next → Performed request k image state reply image
-unfolding refused
-turned {image} state request {k} why f e g =
-    let o = turned_down image refl state request (λ z. refusal_not_zero why (sym f ∙ z)) k in
-    record { reply = g ∙ ap₂ refusal_of (sym f) e ∙ sym (ap (λ x. x.reply) o); image = sym (ap (λ x. x.image) o) }
+turned state request why f e g = turned_by state request f (refusal_not_zero why) e g
