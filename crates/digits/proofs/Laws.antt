@@ -5,6 +5,7 @@ use mathlib.Core.Bool.{Bool, true, false, cond}
 use mathlib.Core.List.{List, [], ◌∷◌, ◌++◌, append_assoc}
 use lib.Dec.{leb}
 use lib.ListN.{length, get_or, set, take, drop, take-append-drop, length-append, length-drop}
+use Rattle.std.proofs.lemmas.List.{drop_all, append-nil}
 use lib.Seq.{take_at, drop_at, drop-drop, length-take-le, set_split, take-suc}
 use native.Mathlib.Omega.{arith}
 use native.Mathlib.Nat.{add-zero, add_assoc}
@@ -61,6 +62,15 @@ module _ {t : List ℕ} {at : ℕ} {b : List ℕ} {r : ℕ} {x : List ℕ} (m : 
         room = omega (arith, n.room, appends_length);
         buffer = n.buffer ∙ rw (take_x, drop_x, length-append, ← add_assoc, ← m.place) (simp append_assoc);
       }
+
+  -- and one character more
+  pub appends_more : (c : ℕ) {r' : ℕ} → r < length b → r' ≡ r + 1 → Appends (t ++ c ∷ []) at b r' (set x r c)
+  appends_more c l e = appends_then (appends_one x r c (omega (arith, appends_length)) e)
+
+-- a text as long as the buffer is all that stands in it
+pub appends_whole : {t b x : List ℕ} {r : ℕ} → Appends t 0 b r x → length b ≡ length t → x ≡ t
+unfolding placed
+appends_whole {t} {b} m l = m.buffer ∙ rw (drop_all (0 + length t) b (omega (arith, l))) (append-nil t)
 
 -- ---- a lent buffer
 

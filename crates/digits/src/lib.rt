@@ -66,7 +66,8 @@ impl Output<'_> {
         requires { HasRoom 2 self.old }
         ensures { Writes (byte_text byte) self.old self.new }
     {
-        self.put_text(&[hexadecimal(byte / 16), hexadecimal(byte % 16)]);
+        self.put(hexadecimal(byte / 16));
+        self.put(hexadecimal(byte % 16));
     }
 
     // A group: four hexadecimal digits. Most are empty.
@@ -88,9 +89,21 @@ impl Output<'_> {
         requires { HasRoom (2 * length bytes.now) self.old }
         ensures { Writes (bytes_text bytes.now) self.old self.new }
     {
-        for byte in bytes {
-            self.put_byte(*byte);
-        }
+        let end = self.end + 2 * bytes.len();
+        fill_digits(&mut self.buffer[self.end..end], bytes);
+        self.end = end;
+    }
+}
+
+// A buffer becomes the digits of bytes. A loop over the buffer alone: digit by digit behind an `Output` a read of 64
+// bytes took twice the time.
+fn fill_digits(out: &mut [u8], bytes: &[u8])
+    requires { length out.old ≡ 2 * length bytes.now }
+    ensures { out.new ≡ bytes_text bytes.now }
+{
+    for (x, byte) in bytes.iter().enumerate() {
+        out[2 * x] = hexadecimal(*byte / 16);
+        out[2 * x + 1] = hexadecimal(*byte % 16);
     }
 }
 

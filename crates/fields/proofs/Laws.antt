@@ -1,5 +1,5 @@
 -- Laws of fields: what stands at a place of a text, and from there on.
-use Prim.Native.Nat.{ℕ, zero, suc, ◌+◌, ◌-◌, ◌*◌, ◌≤◌, ◌<◌}
+use Prim.Native.Nat.{ℕ, zero, suc, min, ◌+◌, ◌-◌, ◌*◌, ◌≤◌, ◌<◌}
 use mathlib.Core.Path.{◌≡◌, refl, sym, ◌∙◌, ap}
 use mathlib.Core.Bool.{Bool, true, false, ◌&&◌, cond}
 use mathlib.Core.List.{List, [], ◌∷◌}
@@ -139,8 +139,32 @@ found_until d s = go (ltb n (length s)) refl ∙ place_until d s
     go true e = refl
     go false e = omega (arith, ltb-false n (length s) e, prefix_len-le-length (λ c. not (eqb c d)) s)
 
+-- a search in the first n characters ends where one in all does, or behind these n
+pub until_take : (d n : ℕ) (s : List ℕ) → length (until d (take n s)) ≡ min n (length (until d s))
+unfolding until
+until_take d zero s = omega arith
+until_take d (suc n) [] = omega arith
+until_take d (suc n) (c ∷ s) = go (eqb c d) (until_take d n s)
+  where
+    go : (b : Bool) → length (until d (take n s)) ≡ min n (length (until d s))
+        → length (cond b [] (c ∷ until d (take n s))) ≡ min (suc n) (length (cond b [] (c ∷ until d s)))
+    go true h = omega arith
+    go false h = omega (arith, h)
+
 pub before_fits : (s : List ℕ) → length (before s) ≤ length s
 before_fits s = until_fits comma s
+
+-- two characters tell whether the field has one
+one_of_two : (m n : ℕ) → n ≡ min 2 m → eqb n 1 ≡ eqb m 1
+one_of_two zero n e = ne_eqb n 1 (λ h. omega (arith, e, h))
+one_of_two (suc zero) n e = eq-eqb n 1 (omega (arith, e))
+one_of_two (suc (suc m)) n e =
+    ne_eqb n 1 (λ h. omega (arith, e, h)) ∙ sym (ne_eqb (suc (suc m)) 1 (λ h. omega (arith, h)))
+
+pub before_of_two : (s : List ℕ) (n : ℕ) → n ≡ min (length s) 2
+    → eqb (length (before (take n s))) 1 ≡ eqb (length (before s)) 1
+before_of_two s n e =
+    one_of_two (length (before s)) _ (omega (arith, e, until_take comma n s, before_fits s))
 
 -- ---- a letter, which stands alone
 

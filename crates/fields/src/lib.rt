@@ -1,6 +1,6 @@
 #![tactic(auto)]
 // The letter and the numbers of an event line, read.
-ghost use Rattle.std.specs.Prelude.{◌≡◌, ◌≤◌, length, Some};
+ghost use Rattle.std.specs.Prelude.{◌≡◌, ◌≤◌, eqb, length, Some};
 ghost use Rattle.text.specs.Fields.{until, before, number_from, number_of};
 ghost use Rattle.text.specs.Letters.{table, looked_up, letter_of};
 ghost use Rattle.fields.specs.Numbers.{measured, Numbered};
@@ -42,11 +42,18 @@ fn look_up(c: u8) -> Option<Listing>
         .copied()
 }
 
+// Whether the field before the first comma has one character: two characters tell, however long the line.
+fn one_character(s: &[u8]) -> bool
+    ensures { result ≡ eqb (length (before s.now)) 1 }
+{
+    find(&s[..s.len().min(2)], b',') == 1
+}
+
 // The field before the first comma as a letter, which stands alone in it.
 pub fn first_letter(s: &[u8]) -> Option<Listing>
     ensures { result ≡ letter_of (before s.now) }
 {
-    if find(s, b',') != 1 {
+    if !one_character(s) {
         return None;
     }
     look_up(s[0])
