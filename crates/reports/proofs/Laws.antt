@@ -18,7 +18,7 @@ use Rattle.digits.specs.declared.Output.{Output}
 use Rattle.digits.proofs.Laws.{writes_none}
 use Rattle.page.specs.Saving.{decided_by}
 use Rattle.page.specs.Columns.{commit_line}
-use Rattle.page.specs.Page.{no_totals, full_status, added, totals_after, decided_text, page_goes, page_step, rsmpage}
+use Rattle.page.specs.Page.{full_status, added, totals_after, decided_text, page_goes, page_step, rsmpage}
 use Rattle.page.specs.declared.Saved.{Saved}
 use Rattle.page.specs.declared.Totals.{Totals}
 use Rattle.page.proofs.Columns.{length_commit}
@@ -117,13 +117,6 @@ ends_steps (PageState p) l e = rw e
 ends_steps (OrderState r) l e = rw e
 
 -- ---- commits
-
-zeros : (a b c : ℕ) → a ≡ 0 → b ≡ 0 → c ≡ 0 → record { commits = a; blocks = b; bytes = c } ≡ no_totals
-unfolding no_totals
-zeros a b c d e f = cc
-
-pub default_totals : (t : Totals) → (t.commits ≡ 0) × ((t.blocks ≡ 0) × (t.bytes ≡ 0)) → t ≡ no_totals
-default_totals t h = zeros t.commits t.blocks t.bytes h.0 h.1.0 h.1.1
 
 pub decided_amounts : (p : Player) (e : Event) → AmountsFit (decided_by p e)
 decided_amounts p e = go (decided_by p e) refl

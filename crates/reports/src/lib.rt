@@ -20,7 +20,7 @@ use printing::put_rows;
 use protocol::Refusal;
 use runner::{MOST_LINES, Played, Run, play_event};
 use saving::decided_by;
-use sheet::{MOST_COMMITS, add, put_commit, put_total};
+use sheet::{MOST_COMMITS, add, no_totals, put_commit, put_total};
 use text::Event;
 use turns::Session;
 
@@ -67,8 +67,7 @@ impl Task {
     pub fn page() -> Task
         ensures { Fits result × ((area : List ℕ) → state_of result area ≡ PageState first_page) }
     {
-        let totals = Totals::default();
-        Task::new(Report::Page(totals))
+        Task::new(Report::Page(no_totals()))
     }
 
     // `rsmorder` before its first line.
@@ -106,16 +105,19 @@ fn to_be_decided(
     ensures { ToBeDecided report (player_of session area.now)
         (meant line buffer.now) result }
 {
-    let Report::Page(_) = report else {
-        return None;
-    };
-    decided_by(
-        &area[..session.length],
-        session.state,
-        session.k,
-        line,
-        buffer,
-    )
+    match report {
+        Report::Rows => None,
+        Report::Page(_) => {
+            decided_by(
+                &area[..session.length],
+                session.state,
+                session.k,
+                line,
+                buffer,
+            )
+        }
+        Report::Order => None,
+    }
 }
 
 // The commit that a line decided, if it did, is counted, and printed unless that is answered 18.

@@ -7,7 +7,7 @@ use mathlib.Core.Logic.{◌≢◌}
 use lib.Dec.{eqb, leb}
 use lib.ListN.{length}
 use borrow.Author.Tests.{eq-eqb, ne_eqb, le-leb, lt-leb}
-use Rattle.std.specs.Prelude.{Some, None, Ok, Err}
+use Rattle.std.specs.Prelude.{Some, None, Ok}
 use Rattle.protocol.specs.Replies.{refusal_number}
 use Rattle.protocol.specs.declared.Refusal.{Refusal}
 use Rattle.protocol.proofs.Numbers.{refusal_not_zero}
@@ -18,7 +18,7 @@ use Rattle.protocol.specs.Image.{Memory, allowed, shape_of, view}
 use Rattle.protocol.specs.Calls.{Request, acknowledging, refusal_at}
 use Rattle.protocol.specs.declared.Shape.{Shape}
 use Rattle.costs.specs.Forecasts.{boards_of, tagged_blocks}
-use Rattle.text.specs.Events.{Make, room, meant}
+use Rattle.text.specs.Events.{Make, Refused, room, meant}
 use Rattle.text.specs.Turns.{Player}
 use Rattle.text.specs.declared.Event.{Event}
 use Rattle.text.specs.declared.Event.TheVariants as event
@@ -66,15 +66,19 @@ module _ (image : List ℕ) (state : Record) (k : ℕ) where
   unfolding decided_by
   undecided request e = sym (if_false _ _ e)
 
+  pub refused_by_nothing : (request : Request) {n : ℕ} → refusal_at image state request ≡ n → n ≢ 0
+      → None ≡ decided_by player (Make request)
+  refused_by_nothing request e some =
+      undecided request (refused_undecided image state request k (λ z. some (sym e ∙ z)))
+
   pub refused_nothing : (request : Request) (why : Refusal) → refusal_at image state request ≡ refusal_number why
       → None ≡ decided_by player (Make request)
-  refused_nothing request why e =
-      undecided request (refused_undecided image state request k (λ z. refusal_not_zero why (sym e ∙ z)))
+  refused_nothing request why e = refused_by_nothing request e (refusal_not_zero why)
 
   -- no other line decides
-  pub refusal_nothing : (why : Refusal) (buffer : List ℕ) → None ≡ decided_by player (meant (Err why) buffer)
-  unfolding decided_by meant
-  refusal_nothing why buffer = refl
+  pub refusal_nothing : (n : ℕ) → None ≡ decided_by player (Refused n)
+  unfolding decided_by
+  refusal_nothing n = refl
 
   pub others_nothing : (e : Event) (buffer : List ℕ) → ((i n : ℕ) → e ≢ event.Start i n)
       → ((i n : ℕ) → e ≢ event.Acknowledge i n)

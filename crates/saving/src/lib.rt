@@ -1,18 +1,19 @@
 #![tactic(auto)]
 // Before a line is played: the commit that it will decide, if it decides one, and what that saves (document 02, Req
 // 05). Afterwards the tags are gone and, if the call was cut, the record too.
-ghost use Rattle.std.specs.Prelude.{◌≡◌, true, ◌≤◌, length};
+ghost use Rattle.std.specs.Prelude.{◌≡◌, true, ℕ, ◌≤◌, length};
 ghost use Rattle.protocol.specs.Image.{allowed, total, view};
 ghost use Rattle.protocol.specs.Calls.{Start, Acknowledge};
-ghost use Rattle.text.specs.Events.{Make, meant, counted};
+ghost use Rattle.text.specs.Events.{Make};
 ghost use Rattle.page.specs.Saving.{saved, decided_by};
 ghost use Rattle.saving.specs.Acknowledged.{if_all_acknowledged};
+ghost use Rattle.saving.specs.Lines.{meant_by, counted_by};
 
 use commit::{acknowledge_entry, start_entry};
 use forecast::{member_count, tagged_count};
 use groups::commit_closure;
 use page::Saved;
-use protocol::{Refusal, Shape};
+use protocol::Shape;
 use text::Event;
 use volatile::Record;
 
@@ -82,17 +83,18 @@ fn by_acknowledgement(
     if_all_acknowledged(image, s, next, i, k)
 }
 
-// A line that was taken apart; its bytes stand at the start of the buffer. Only these two decide.
-pub fn decided_by(
+// A line that was taken apart; its bytes stand at the start of the buffer. Only these two decide: a line that is
+// refused does not, by whatever it is refused.
+pub fn decided_by<E: Copy>(
     image: &[u8],
     state: Record,
     k: usize,
-    line: Result<Event, Refusal>,
+    line: Result<Event, E>,
     buffer: &[u8],
 ) -> Option<Saved>
-    requires { counted line ≤ length buffer.now }
-    ensures { result ≡ decided_by (record { image = image.entry.now; state = state; k = k })
-        (meant line buffer.now) }
+    requires { counted_by line ≤ length buffer.now }
+    ensures { (number : E → ℕ) → result ≡ decided_by (record { image = image.entry.now; state = state; k = k })
+        (meant_by number line buffer.now) }
 {
     let Ok(event) = line else {
         return None;

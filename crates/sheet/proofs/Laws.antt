@@ -10,6 +10,8 @@ use Rattle.std.proofs.lemmas.Bool.{false≢true}
 use Rattle.protocol.proofs.Numbers.{refusal_not_zero}
 use Rattle.protocol.specs.declared.Refusal.{Refusal}
 use Rattle.page.specs.Columns.{blank, leading, padded}
+use Rattle.page.specs.Page.{no_totals}
+use Rattle.page.specs.declared.Totals.{Totals}
 use Rattle.sheet.specs.Sums.{added_status}
 
 before : (w : ℕ) → suc w - 1 ≡ w
@@ -24,6 +26,15 @@ pub padded_last : (w n : ℕ) → 1 ≤ w → padded w n ≡ leading (w - 1) (n 
 unfolding padded
 padded_last zero n h = absurd (omega arith)
 padded_last (suc w) n h = rw (before w)
+
+-- ---- totals
+
+zeros : (a b c : ℕ) → a ≡ 0 → b ≡ 0 → c ≡ 0 → record { commits = a; blocks = b; bytes = c } ≡ no_totals
+unfolding no_totals
+zeros a b c d e f = cc
+
+pub default_totals : (t : Totals) → (t.commits ≡ 0) × ((t.blocks ≡ 0) × (t.bytes ≡ 0)) → t ≡ no_totals
+default_totals t h = zeros t.commits t.blocks t.bytes h.0 h.1.0 h.1.1
 
 -- ---- what a commit is answered: 0, or the number of a refusal
 

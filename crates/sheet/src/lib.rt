@@ -3,7 +3,7 @@
 ghost use Rattle.std.specs.Prelude.{◌≡◌, cond, ◌+◌, ◌%◌, ◌≤◌, eqb};
 ghost use Rattle.digits.specs.Append.{HasRoom, Writes};
 ghost use Rattle.page.specs.Columns.{blank, leading, padded, amounts_text, commit_line, total_line};
-ghost use Rattle.page.specs.Page.{full_status, added};
+ghost use Rattle.page.specs.Page.{no_totals, full_status, added};
 ghost use Rattle.sheet.specs.Sums.{Small, added_status};
 
 use digits::Output;
@@ -12,6 +12,13 @@ use protocol::Refusal;
 
 // The commits that are printed at most.
 pub const MOST_COMMITS: usize = 9999;
+
+// Before the first commit.
+pub fn no_totals() -> Totals
+    ensures { (result ≡ no_totals) × Small result }
+{
+    Totals::default()
+}
 
 // A decided commit is counted and, if it is to be printed, summed; else refused, and counted all the same.
 pub fn add(totals: &mut Totals, c: Saved) -> Result<(), Refusal>
