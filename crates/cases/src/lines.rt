@@ -6,17 +6,14 @@ use bench::records::changed;
 use bench::requests::Request;
 use bench::tell::{Buffer, FILL, Hex, Masks, Told, record_change, same_or_changed};
 use costs::Forecast;
-use cuts::every::{Cuts, make_whole};
+use cuts::every::{Cuts, ROOM, make_whole};
 use protocol::Refusal;
-use std::alloc::{AllocError, Global};
 use volatile::Record;
 
-// The bytes that stand ready; the image lent is the first part of them.
-const ROOM: usize = 36000;
-
 // What stands between two requests.
-#[derive(Drop)]
+#[derive(Clone, Copy)]
 pub struct Bench {
+    // The image lent is the first part of it.
     image: [u8; ROOM],
     // The image remembered or, from the last call that was cut at every k on, the one that it leaves uncut.
     other: [u8; ROOM],
@@ -39,13 +36,13 @@ impl Bench {
     }
 
     // Writes a line and its answer. That they could not be written is told by the output alone.
-    pub fn play(&mut self, rt: &impl Print, alloc: Global, line: &[u8]) -> Result<(), AllocError> {
+    pub fn play(&mut self, rt: &impl Print, line: &[u8]) {
         let _ = rt.write_all(line);
         let request = Request::parse(line);
         self.set(request);
         match request {
             Request::Call(call, k) => self.call(rt, call, k),
-            Request::EveryCut(call) => return self.every_cut(rt, alloc, call),
+            Request::EveryCut(call) => self.every_cut(rt, call),
             Request::CommitForecast(board) => {
                 tell_forecast(
                     rt,
@@ -63,7 +60,6 @@ impl Bench {
                 let _ = rt.write_all(b"\n");
             }
         }
-        Ok(())
     }
 
     // What a line sets before it is answered.
@@ -73,10 +69,7 @@ impl Bench {
             | Request::EveryCut(Call::Format { length, .. })
             | Request::Lend(length) => self.length = length,
             Request::Show(shown) => self.shown = shown,
-            Request::Remember => {
-                let image = self.image;
-                self.other = image;
-            }
+            Request::Remember => self.other.copy_from_slice(&self.image),
             Request::SetByte(at, byte) => self.set_byte(at, byte),
             Request::SetNumber(place, number) => self.state = changed(self.state, place, number),
             _ => {}
@@ -119,13 +112,12 @@ impl Bench {
     }
 
     // A call cut at every k. Image and record stay as they were.
-    fn every_cut(&mut self, rt: &impl Print, alloc: Global, call: Call) -> Result<(), AllocError> {
+    fn every_cut(&mut self, rt: &impl Print, call: Call) {
         let n = self.lent_length();
         let state = self.state;
-        let shown = self.shown;
-        let image = self.image;
-        let before = &image[..n];
-        let after = &mut self.other[..n];
+        let before = &self.image[..n];
+        let other = &mut self.other[..];
+        let after = &mut other[..n];
         after.copy_from_slice(before);
         make_whole(call, after, state);
         let cuts = Cuts {
@@ -135,7 +127,7 @@ impl Bench {
             after,
         };
         let _ = rt.write_all(b"\n");
-        cuts.tell(rt, alloc, shown)
+        cuts.tell(rt, self.shown);
     }
 }
 

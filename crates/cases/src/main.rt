@@ -29,22 +29,31 @@
 //   Q,place,number          0 to 15: that row of the record; 16 on, 17 starter, 18 members, 19 acknowledged
 mod lines;
 
+ghost use Rattle.std.specs.Prelude.{◌≤◌, length};
+
 use lines::Bench;
-use std::alloc::{AllocError, Global};
 use std::io::Read;
 
-// The input's first 65,536 bytes, or those before a read that fails.
-fn read_text<R: Read + Drop>(alloc: Global, from: R) -> Vec<u8> {
-    let mut text = Vec::new(alloc);
-    let _ = from.take(65536).read_to_end(&mut text);
-    text
+// Reads until the text is full, the input ends or a read fails; how many bytes it put at the text's start.
+fn read_full<R: Read>(from: &mut R, text: &mut [u8]) -> usize
+    ensures { result ≤ length text.new }
+{
+    let mut done = 0;
+    while done < text.len() {
+        let n = from.read(&mut text[done..]).unwrap_or(0);
+        if n == 0 {
+            break;
+        }
+        done += n;
+    }
+    done
 }
 
-fn main(rt: HostRuntime) -> Result<(), AllocError> {
-    let text = read_text(rt.alloc(), rt.stdin());
+fn main(rt: HostRuntime) {
+    let mut text = [0u8; 65536];
+    let n = read_full(&mut rt.stdin(), &mut text);
     let mut bench = Bench::new();
-    for line in text.split_inclusive(|byte| *byte == b'\n') {
-        bench.play(&rt, rt.alloc(), line.strip_suffix(b"\n").unwrap_or(line))?;
+    for line in text[..n].split_inclusive(|byte| *byte == b'\n') {
+        bench.play(&rt, line.strip_suffix(b"\n").unwrap_or(line));
     }
-    Ok(())
 }

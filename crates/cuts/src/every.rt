@@ -1,12 +1,16 @@
 // A call cut at every k and powered up, where the power-up is cut at every k too and made again.
+ghost use Rattle.std.specs.Prelude.{◌≤◌, ◌≡◌, length};
+
 use bench::calls::Call;
 use bench::tell::{Hex, Told};
 use layout::TAGS;
 use protocol::{Answer, Refusal};
 use recovery::power_up;
-use std::alloc::{AllocError, Global};
 use std::fmt;
 use volatile::Record;
+
+// The most bytes that are lent as an image: copies of one are made in arrays of that size.
+pub const ROOM: usize = 36000;
 
 // More than any call stores.
 const ENOUGH: usize = 99999;
@@ -98,48 +102,57 @@ pub struct Cuts<'a> {
 
 impl Cuts<'_> {
     // Tells the call cut at 0, 1, .. until it is not cut; with `shown`, the images that it leaves too.
-    pub fn tell(&self, rt: &impl Print, alloc: Global, shown: bool) -> Result<(), AllocError> {
+    pub fn tell(&self, rt: &impl Print, shown: bool)
+        requires { length self.now.before.now ≤ 36000 }
+    {
+        let n = self.before.len();
+        let mut left = [0; ROOM];
+        let mut image = [0; ROOM];
         for k in 0..1000 {
-            if !self.tell_cut(rt, alloc, k, shown)? {
+            if !self.tell_cut(rt, k, shown, &mut left[..n], &mut image[..n]) {
                 break;
             }
         }
-        Ok(())
     }
 
-    // Tells the call cut at k, and its power-ups; whether it was cut.
+    // Tells the call cut at k, made on a copy in `left`, and its power-ups; whether it was cut.
     fn tell_cut(
         &self,
         rt: &impl Print,
-        alloc: Global,
         k: usize,
         shown: bool,
-    ) -> Result<bool, AllocError> {
-        let mut image = self.before.to_vec(alloc)?;
-        let answer = self.call.make(&mut image, self.state, k, &mut []).answer;
-        let tally = self.every_power_up(alloc, &image)?;
+        left: &mut [u8],
+        image: &mut [u8],
+    ) -> bool
+        requires { (length left.old ≡ length self.now.before.now) × (length left.old ≡ length image.old) }
+    {
+        left.copy_from_slice(self.before);
+        let answer = self.call.make(left, self.state, k, &mut []).answer;
+        let tally = self.every_power_up(left, image);
         let told = Told(answer);
         let _ = print!(rt; " : {told}, powered up: {tally}");
         if shown {
-            let left = Hex(&image);
+            let left = Hex(left);
             let _ = print!(rt; ", image {left}");
         }
         let _ = rt.write_all(b"\n");
-        Ok(was_cut(answer))
+        was_cut(answer)
     }
 
-    // Power-ups of what the cut call left, cut at 0, 1, .. until one is done or refused.
-    fn every_power_up(&self, alloc: Global, left: &[u8]) -> Result<Tally, AllocError> {
+    // Power-ups of what the cut call left, cut at 0, 1, .. until one is done or refused, each of a copy in `image`.
+    fn every_power_up(&self, left: &[u8], image: &mut [u8]) -> Tally
+        requires { length left.now ≡ length image.old }
+    {
         let mut tally = Tally::default();
         for k in 0..1000 {
-            let mut image = left.to_vec(alloc)?;
-            let cut = power_up_twice(&mut image, k);
-            tally.count(self.outcome(&mut image));
+            image.copy_from_slice(left);
+            let cut = power_up_twice(image, k);
+            tally.count(self.outcome(image));
             if !cut {
                 break;
             }
         }
-        Ok(tally)
+        tally
     }
 
     fn outcome(&self, image: &mut [u8]) -> Outcome {

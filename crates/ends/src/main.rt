@@ -2,10 +2,10 @@
 // How a run ends: at the limit of 99,999 lines, whose last is cut, by errors of the system, a page at these and at its
 // limit of 9,999 commits, and an order. Each run is told in a line, and the last lines of some follow. The long events
 // and what is printed of them are files of the folder that the program is run in.
+ghost use Rattle.std.specs.Prelude.{◌≤◌, length};
 ghost use Rattle.reports.specs.Tasks.{Fits};
 
 use reports::Task;
-use std::alloc::Global;
 use std::fs::{File, OpenOptions};
 use std::io;
 use std::io::{Read, Seek, SeekFrom, Write};
@@ -17,11 +17,19 @@ fn open_append<R: Files>(rt: &R, name: &str) -> io::Result<R::File> {
     OpenOptions::new().append(true).open(rt, name)
 }
 
-// The next bytes, at most so many: up to the end or a read that fails.
-fn next_bytes<R: Read + Drop>(alloc: Global, from: R, most: u64) -> Vec<u8> {
-    let mut bytes = Vec::new(alloc);
-    let _ = from.take(most).read_to_end(&mut bytes);
-    bytes
+// Reads until the buffer is full, the input ends or a read fails; how many bytes it put at the buffer's start.
+fn read_full<R: Read>(from: &mut R, buffer: &mut [u8]) -> usize
+    ensures { result ≤ length buffer.new }
+{
+    let mut done = 0;
+    while done < buffer.len() {
+        let n = from.read(&mut buffer[done..]).unwrap_or(0);
+        if n == 0 {
+            break;
+        }
+        done += n;
+    }
+    done
 }
 
 // Writes a text so many times.
@@ -60,7 +68,7 @@ fn play_files<R: Read, W: Write>(task: Task, from: &mut R, to: &mut W) -> Result
 }
 
 // Plays; tells how that ended, and the next two bytes of the input, if any are left.
-fn play<R: Files + Print + AllocGlobal>(
+fn play<R: Files + Print>(
     rt: &R,
     name: &str,
     task: Task,
@@ -71,20 +79,25 @@ fn play<R: Files + Print + AllocGlobal>(
 {
     print!(rt; "{name}: ")?;
     let ended = name_of(play_files(task, &mut from, &mut to));
-    print!(rt; "{ended}, left: ")?;
-    rt.write_all(&next_bytes(rt.alloc(), from, 2))?;
+    print!(rt; "{ended}")?;
+    let mut next = [0u8; 2];
+    let n = read_full(&mut from, &mut next);
+    rt.write_all(b", left: ")?;
+    rt.write_all(&next[..n])?;
     rt.write_all(b"\n")
 }
 
 // The last bytes that were printed; a shorter text is told from its first byte on.
-fn tell_last<R: Files + Print + AllocGlobal>(rt: &R, count: u8) -> io::Result<()> {
+fn tell_last<R: Files + Print>(rt: &R, count: u8) -> io::Result<()> {
     let mut file = File::open(rt, "played")?;
     let _ = file.seek(SeekFrom::End(-i64::from(count)));
-    rt.write_all(&next_bytes(rt.alloc(), file, 96))
+    let mut text = [0u8; 96];
+    let n = read_full(&mut file, &mut text);
+    rt.write_all(&text[..n])
 }
 
 // Plays, and tells the last bytes that were printed.
-fn play_to_last<R: Files + Print + AllocGlobal>(
+fn play_to_last<R: Files + Print>(
     rt: &R,
     name: &str,
     task: Task,
@@ -101,7 +114,7 @@ fn play_to_last<R: Files + Print + AllocGlobal>(
 // `rsmrun` at the limit of lines, by errors of the system; after a write that failed nothing more is read. A file that
 // is open for writing alone stands for a closed input, one for reading alone for a closed output: the system answers
 // the same.
-fn play_rows<R: Files + Print + AllocGlobal>(rt: &R) -> io::Result<()> {
+fn play_rows<R: Files + Print>(rt: &R) -> io::Result<()> {
     // 100,001 lines, of which the fault in line 99,999 is cut.
     write_events(
         rt,
@@ -137,7 +150,7 @@ fn write_commits<R: Files>(rt: &R, times: usize) -> io::Result<()> {
 
 // `rsmpage` at the limits of commits and of lines; after a read that failed there is no total line. The last three
 // lines of each page are told.
-fn play_pages<R: Files + Print + AllocGlobal>(rt: &R) -> io::Result<()> {
+fn play_pages<R: Files + Print>(rt: &R) -> io::Result<()> {
     let page = Task::page();
     write_commits(rt, 9999)?;
     play_to_last(rt, "page of 9,999 commits", page, "commits", 96)?;
@@ -154,7 +167,7 @@ fn play_pages<R: Files + Print + AllocGlobal>(rt: &R) -> io::Result<()> {
 }
 
 // `rsmorder` at the limit of lines; after a read that failed there is no order. The last three lines are told.
-fn play_orders<R: Files + Print + AllocGlobal>(rt: &R) -> io::Result<()> {
+fn play_orders<R: Files + Print>(rt: &R) -> io::Result<()> {
     // In line 99,999 board 0 comes to depend on board 1, and in line 100,000 neither would depend on the other any
     // more.
     write_events(

@@ -3,7 +3,8 @@
 // printed with what is stored. NAME stands for NAME.events, NAME.answers as `rsmrun` prints them, NAME.page as
 // `rsmpage` does and NAME.order as `rsmorder` does, in the folder that the program is run in; what is printed goes
 // through a file of that folder. A file that can't be read is not as expected.
-ghost use Rattle.std.specs.Prelude.{◌≤◌};
+ghost use Rattle.std.specs.Prelude.{◌≤◌, length};
+ghost use Rattle.std.specs.Result.{IfOk};
 ghost use Rattle.reports.specs.Tasks.{Fits};
 
 use reports::Task;
@@ -22,37 +23,70 @@ const MOST: usize = 65536;
 // The sizes of the pieces that each file is read in.
 const SIZES: [usize; 5] = [1, 7, 161, 162, 8192];
 
-// The path of a name with an ending.
-fn path_of<R: AllocGlobal>(rt: &R, name: &[u8], ending: &str) -> io::Result<String> {
-    let Ok(name) = str::from_utf8(name) else {
-        return Err(io::Error::from(ErrorKind::InvalidInput));
+// What was read of a file, and whether that is all of it.
+#[derive(Drop)]
+struct Got<'a> {
+    text: &'a [u8],
+    is_whole: bool,
+}
+
+// The path of a name with an ending, put into a buffer.
+fn path_of<'a>(name: &'a [u8], ending: &str, path: &'a mut [u8; LONGEST]) -> io::Result<&'a str> {
+    let end = name.len() + ending.len();
+    let bytes = if end > LONGEST {
+        name
+    } else {
+        path[..name.len()].copy_from_slice(name);
+        path[name.len()..end].copy_from_slice(ending.as_bytes());
+        &path[..end]
     };
-    if name.len() + ending.len() > LONGEST {
-        return Ok(String::from_str(rt.alloc(), name)?);
+    str::from_utf8(bytes).map_err(|_| io::Error::from(ErrorKind::InvalidInput))
+}
+
+// Reads an open file to its end. One that fills the buffer may go on behind it: it is not read whole.
+fn read_all<'a, R: Read>(from: &mut R, buffer: &'a mut [u8; MOST]) -> Got<'a>
+    ensures { length result.text.now ≤ 65536 }
+{
+    let mut n = 0;
+    while n < MOST {
+        match from.read(&mut buffer[n..]) {
+            Ok(0) => {
+                return Got {
+                    text: &buffer[..n],
+                    is_whole: true,
+                };
+            }
+            Ok(more) => n += more,
+            Err(_) => break,
+        }
     }
-    Ok(format!(in rt.alloc(); "{name}{ending}")?)
-}
-
-// Reads a file behind what the text holds; a read that fails leaves what was read before it.
-fn read_file<R: Files>(rt: &R, path: &str, text: &mut Vec<u8>) -> io::Result<usize> {
-    File::open(rt, path)?.take(MOST as u64).read_to_end(text)
-}
-
-// A whole file.
-fn load<R: Files + AllocGlobal>(rt: &R, path: &str) -> io::Result<Vec<u8>> {
-    let mut text = Vec::new(rt.alloc());
-    if read_file(rt, path, &mut text)? == MOST {
-        return Err(io::Error::from(ErrorKind::FileTooLarge));
+    Got {
+        text: &buffer[..n],
+        is_whole: false,
     }
-    Ok(text)
 }
 
-// How many lines the events of a name have: as many as line feeds, and one more if something follows the last.
-fn line_count<R: Files + AllocGlobal>(rt: &R, name: &[u8]) -> io::Result<usize> {
-    let mut text = Vec::new(rt.alloc());
-    let path = path_of(rt, name, ".events")?;
-    let _ = read_file(rt, path.as_str(), &mut text);
-    Ok(text.split_inclusive(|byte| *byte == b'\n').count())
+// Reads the file of a path.
+fn load<'a, R: Files>(rt: &R, path: &str, buffer: &'a mut [u8; MOST]) -> io::Result<Got<'a>>
+    ensures { IfOk result (λ got. length got.text.now ≤ 65536) }
+{
+    let mut file = File::open(rt, path)?;
+    Ok(read_all(&mut file, buffer))
+}
+
+// How many lines a text has: as many as line feeds, and one more if something follows the last.
+fn line_count(text: &[u8]) -> usize
+    ensures { result ≤ length text.now }
+{
+    text.split_inclusive(|byte| *byte == b'\n').count()
+}
+
+// How many lines the events of a name have.
+fn lines_of<R: Files>(rt: &R, name: &[u8]) -> io::Result<usize> {
+    let mut path = [0u8; LONGEST];
+    let mut buffer = [0u8; MOST];
+    let events = load(rt, path_of(name, ".events", &mut path)?, &mut buffer)?;
+    Ok(line_count(events.text))
 }
 
 // Plays from one open file to another, on an area that holds anything; whether all was played. The input is no longer
@@ -67,8 +101,29 @@ fn play_files<R: Read, W: Write>(size: usize, task: Task, from: &mut R, to: &mut
     stream::play(from, to, size, task, text, &mut area, &mut out).is_ok()
 }
 
+// Plays the events of a name by pieces of a size, into the file `played`; whether all was played.
+fn is_played<R: Files>(rt: &R, name: &[u8], size: usize, task: Task) -> io::Result<bool>
+    requires { (1 ≤ size) × (size ≤ 8192) × Fits task }
+{
+    let mut path = [0u8; LONGEST];
+    let mut from = File::open(rt, path_of(name, ".events", &mut path)?)?;
+    let mut to = File::create(rt, "played")?;
+    Ok(play_files(size, task, &mut from, &mut to))
+}
+
+// Whether the file `played` holds what the file of a name with an ending holds.
+fn is_same<R: Files>(rt: &R, name: &[u8], ending: &str) -> io::Result<bool> {
+    let mut path = [0u8; LONGEST];
+    let mut wanted = [0u8; MOST];
+    let mut printed = [0u8; MOST];
+    let stored = load(rt, path_of(name, ending, &mut path)?, &mut wanted)?;
+    let played = load(rt, "played", &mut printed)?;
+    Ok(stored.is_whole && played.is_whole && stored.text == played.text)
+}
+
 // Plays the events of a name by pieces of a size; whether what is printed is what the file with an ending holds.
-fn is_stored<R: Files + AllocGlobal>(
+// The files that are played from and to are closed before `played` is read.
+fn is_stored<R: Files>(
     rt: &R,
     name: &[u8],
     size: usize,
@@ -77,17 +132,11 @@ fn is_stored<R: Files + AllocGlobal>(
 ) -> io::Result<bool>
     requires { (1 ≤ size) × (size ≤ 8192) × Fits task }
 {
-    let mut from = File::open(rt, path_of(rt, name, ".events")?)?;
-    let mut to = File::create(rt, "played")?;
-    if !play_files(size, task, &mut from, &mut to) {
-        return Ok(false);
-    }
-    let stored = load(rt, path_of(rt, name, ending)?.as_str())?;
-    Ok(load(rt, "played")? == stored)
+    Ok(is_played(rt, name, size, task)? && is_same(rt, name, ending)?)
 }
 
 // Whether answers, page and order of a name are as expected by pieces of a size.
-fn is_expected<R: Files + AllocGlobal>(rt: &R, name: &[u8], size: usize) -> io::Result<bool>
+fn is_expected<R: Files>(rt: &R, name: &[u8], size: usize) -> io::Result<bool>
     requires { (1 ≤ size) × (size ≤ 8192) }
 {
     Ok(
@@ -98,16 +147,16 @@ fn is_expected<R: Files + AllocGlobal>(rt: &R, name: &[u8], size: usize) -> io::
 }
 
 // The first size by whose pieces a name is not as expected.
-fn differing_size<R: Files + AllocGlobal>(rt: &R, name: &[u8]) -> Option<usize> {
+fn differing_size<R: Files>(rt: &R, name: &[u8]) -> Option<usize> {
     SIZES
         .into_iter()
         .find(|size| !is_expected(rt, name, *size).unwrap_or(false))
 }
 
 // Plays the files of a name; whether they are as expected.
-fn replay<R: Files + Print + AllocGlobal>(rt: &R, name: &[u8]) -> bool {
+fn replay<R: Files + Print>(rt: &R, name: &[u8]) -> bool {
     let _ = rt.write_all(name);
-    let lines = line_count(rt, name).unwrap_or(0);
+    let lines = lines_of(rt, name).unwrap_or(0);
     match differing_size(rt, name) {
         None => {
             let _ = println!(rt; ": {lines} lines, as expected");
