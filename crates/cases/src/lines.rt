@@ -127,7 +127,7 @@ impl Bench {
             after,
         };
         let _ = rt.write_all(b"\n");
-        cuts.tell(rt, self.shown);
+        cuts.tell_in_arrays(rt, self.shown);
     }
 }
 

@@ -6,10 +6,11 @@ use bench::tell::{Hex, Told};
 use layout::TAGS;
 use protocol::{Answer, Refusal};
 use recovery::power_up;
+use std::alloc::{AllocError, Global};
 use std::fmt;
 use volatile::Record;
 
-// The most bytes that are lent as an image: copies of one are made in arrays of that size.
+// The most bytes of an image that `cases` lends: `tell_in_arrays` makes copies of one in arrays of that size.
 pub const ROOM: usize = 36000;
 
 // More than any call stores.
@@ -101,8 +102,21 @@ pub struct Cuts<'a> {
 }
 
 impl Cuts<'_> {
-    // Tells the call cut at 0, 1, .. until it is not cut; with `shown`, the images that it leaves too.
-    pub fn tell(&self, rt: &impl Print, shown: bool)
+    // Tells the call cut at 0, 1, .. until it is not cut; with `shown`, the images that it leaves too. Where there is no
+    // memory for two copies of the image, nothing is told.
+    pub fn tell(&self, rt: &impl Print, alloc: Global, shown: bool) -> Result<(), AllocError> {
+        let mut left = self.before.to_vec(alloc)?;
+        let mut image = self.before.to_vec(alloc)?;
+        for k in 0..1000 {
+            if !self.tell_cut(rt, k, shown, &mut left, &mut image) {
+                break;
+            }
+        }
+        Ok(())
+    }
+
+    // The same of an image of at most `ROOM` bytes, whose copies are made in arrays: it asks for no memory.
+    pub fn tell_in_arrays(&self, rt: &impl Print, shown: bool)
         requires { length self.now.before.now ≤ 36000 }
     {
         let n = self.before.len();
@@ -170,4 +184,105 @@ impl Cuts<'_> {
 pub fn make_whole(call: Call, image: &mut [u8], state: Record) {
     call.make(image, state, ENOUGH, &mut []);
     power_up(image, ENOUGH);
+}
+
+#[cfg(test)]
+mod tests {
+    use super::*;
+    use protocol::{Requester, Shape};
+    use std::cell::RefCell;
+    use std::fmt::Display;
+    use std::io;
+    use std::test::Fail;
+
+    // Keeps what is printed.
+    #[derive(Drop)]
+    struct Kept {
+        text: RefCell<String>,
+    }
+
+    impl Print for Kept {
+        fn print<D: Display + Drop>(&self, value: D) -> io::Result<()> {
+            if let Ok(mut text) = self.text.try_borrow_mut() {
+                let _ = write!(text, "{value}");
+            }
+            Ok(())
+        }
+
+        fn println<D: Display + Drop>(&self, value: D) -> io::Result<()> {
+            self.print(value)?;
+            self.print("\n")
+        }
+
+        fn write_all(&self, bytes: &[u8]) -> io::Result<()> {
+            self.print(str::from_utf8(bytes).unwrap_or("?"))
+        }
+    }
+
+    const SHAPE: Shape = Shape {
+        boards: 2,
+        size: 1,
+        blocks: 2,
+        context: 1,
+    };
+
+    // A write by board 0 of the byte 7 into cell 0 stores the block's tag and the byte; a power-up the byte again, and
+    // that the block has no tag.
+    #[test]
+    fn tells_a_write(rt: HostRuntime) -> Result<(), Fail> {
+        let mut image = [0; 22];
+        let format = Call::Format {
+            shape: SHAPE,
+            length: 22,
+        };
+        let state = format.make(&mut image, Record::off(), ENOUGH, &mut []).next;
+        let call = Call::Write {
+            by: Requester::Board(0),
+            cell: 0,
+            n: 1,
+            first: 7,
+        };
+        let mut after = image;
+        make_whole(call, &mut after, state);
+        let cuts = Cuts {
+            call,
+            state,
+            before: &image,
+            after: &after,
+        };
+        let kept = Kept {
+            text: RefCell::new(String::new(rt.alloc())),
+        };
+        cuts.tell(&kept, rt.alloc(), false)?;
+        let told = kept.text.into_inner();
+        assert_eq!(rt;
+            told.as_str(),
+            " : 9 0 0000 0, powered up: before 1, after 0, neither 0\n\
+             \x20: 9 0 0000 1, powered up: before 3, after 0, neither 0\n\
+             \x20: 0 0 0000 2, powered up: before 3, after 0, neither 0\n"
+        );
+        Ok(())
+    }
+
+    // More bytes than any shape has, all 0: every power-up is refused, so nothing is recovered.
+    #[test]
+    fn tells_of_any_length(rt: HostRuntime) -> Result<(), Fail> {
+        let image = [0; 36001];
+        let cuts = Cuts {
+            call: Call::PowerUp,
+            state: Record::off(),
+            before: &image,
+            after: &image,
+        };
+        let kept = Kept {
+            text: RefCell::new(String::new(rt.alloc())),
+        };
+        cuts.tell(&kept, rt.alloc(), false)?;
+        let told = kept.text.into_inner();
+        assert_eq!(rt;
+            told.as_str(),
+            " : 11 0 0000 0, powered up: before 0, after 0, neither 1\n"
+        );
+        Ok(())
+    }
 }

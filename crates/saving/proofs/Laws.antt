@@ -7,7 +7,7 @@ use mathlib.Core.Logic.{◌≢◌}
 use lib.Dec.{eqb, leb}
 use lib.ListN.{length}
 use borrow.Author.Tests.{eq-eqb, ne_eqb, le-leb, lt-leb}
-use Rattle.std.specs.Prelude.{Some, None, Ok}
+use Rattle.std.specs.Prelude.{Some, None, Ok, Err}
 use Rattle.protocol.specs.Replies.{refusal_number}
 use Rattle.protocol.specs.declared.Refusal.{Refusal}
 use Rattle.protocol.proofs.Numbers.{refusal_not_zero}
@@ -76,9 +76,13 @@ module _ (image : List ℕ) (state : Record) (k : ℕ) where
   refused_nothing request why e = refused_by_nothing request e (refusal_not_zero why)
 
   -- no other line decides
-  pub refusal_nothing : (n : ℕ) → None ≡ decided_by player (Refused n)
+  pub refused_line_nothing : (n : ℕ) → None ≡ decided_by player (Refused n)
   unfolding decided_by
-  refusal_nothing n = refl
+  refused_line_nothing n = refl
+
+  pub refusal_nothing : (why : Refusal) (buffer : List ℕ) → None ≡ decided_by player (meant (Err why) buffer)
+  unfolding meant
+  refusal_nothing why buffer = refused_line_nothing (refusal_number why)
 
   pub others_nothing : (e : Event) (buffer : List ℕ) → ((i n : ℕ) → e ≢ event.Start i n)
       → ((i n : ℕ) → e ≢ event.Acknowledge i n)

@@ -3,7 +3,7 @@ use native.Mathlib.Nat.{sub-zero}
 use borrow.Author.Rules.{rules}
 use Rattle.text.specs.Events.{meant, counted}
 use Rattle.saving.specs.Lines.{meant_by, counted_by}
-use Rattle.saving.proofs.Laws.{refusal_nothing, others_nothing}
+use Rattle.saving.proofs.Laws.{refused_line_nothing, others_nothing}
 use Rattle.saving.proofs.decided_by.Goals as goal
 
 pub slice_bounds-by_start-end : goal.slice_bounds-by_start-end
@@ -26,7 +26,7 @@ returns-in-Acknowledge g c =
 
 pub returns-in_default : goal.returns-in_default
 unfolding meant_by
-returns-in_default g c = λ number. rw c.in_default.is (refusal_nothing _ _ _ _)
+returns-in_default g c = λ number. rw c.in_default.is (refused_line_nothing _ _ _ _)
 
 pub returns-in_default-event : goal.returns-in_default-event
 unfolding meant_by
