@@ -102,8 +102,8 @@ pub struct Cuts<'a> {
 }
 
 impl Cuts<'_> {
-    // Tells the call cut at 0, 1, .. until it is not cut; with `shown`, the images that it leaves too. Where there is no
-    // memory for two copies of the image, nothing is told.
+    // Tells the call cut at 0, 1, .. until it is not cut; with `shown`, the images that it leaves too. Where there is
+    // no memory for two copies of the image, nothing is told.
     pub fn tell(&self, rt: &impl Print, alloc: Global, shown: bool) -> Result<(), AllocError> {
         let mut left = self.before.to_vec(alloc)?;
         let mut image = self.before.to_vec(alloc)?;
@@ -227,7 +227,7 @@ mod tests {
     };
 
     // A write by board 0 of the byte 7 into cell 0 stores the block's tag and the byte; a power-up the byte again, and
-    // that the block has no tag.
+    // that the block has no tag. The tags are bytes 12 and 13, the current bank 14 and 15.
     #[test]
     fn tells_a_write(rt: HostRuntime) -> Result<(), Fail> {
         let mut image = [0; 22];
@@ -253,13 +253,16 @@ mod tests {
         let kept = Kept {
             text: RefCell::new(String::new(rt.alloc())),
         };
-        cuts.tell(&kept, rt.alloc(), false)?;
+        cuts.tell(&kept, rt.alloc(), true)?;
         let told = kept.text.into_inner();
         assert_eq!(rt;
             told.as_str(),
-            " : 9 0 0000 0, powered up: before 1, after 0, neither 0\n\
-             \x20: 9 0 0000 1, powered up: before 3, after 0, neither 0\n\
-             \x20: 0 0 0000 2, powered up: before 3, after 0, neither 0\n"
+            " : 9 0 0000 0, powered up: before 1, after 0, neither 0, image \
+             52534d31020002000100000000000000000000000000\n\
+             \x20: 9 0 0000 1, powered up: before 3, after 0, neither 0, image \
+             52534d31020002000100000001000000000000000000\n\
+             \x20: 0 0 0000 2, powered up: before 3, after 0, neither 0, image \
+             52534d31020002000100000001000700000000000000\n"
         );
         Ok(())
     }
